@@ -1,0 +1,81 @@
+-- A controller without its bus, as contracts see it.
+use Rattle.std.specs.Prelude.{◌≡◌, ℕ, ◌/◌, ◌+◌, ◌≤◌, Bool, false, ◌&&◌, ◌||◌, List, [], IsTrue, IsFalse, if◌then◌else◌, Option, None, option_map, Result, Ok, Err}
+use Rattle.flash_dev.specs.Flash.{block_size}
+use Rattle.flash_dev.specs.Counts.{Rose, raised_by}
+use Rattle.flash_dev.specs.Device.{DeviceView, IsChange}
+use Rattle.flash_dev.specs.declared.device.DevErr.{DevErr}
+use Rattle.flash_ctl.specs.Locks.{CtlView, no_locks, with_locked}
+use Rattle.flash_ctl.specs.declared.CtlErr.{CtlErr}
+use Rattle.flash_ctl.specs.declared.CtlErr.TheVariants.{Locked, Device}
+use Rattle.ec_types.specs.declared.image.ImageCopy.TheVariants.{Ro}
+use Rattle.ec_model.specs.declared.live.Live.{Live}
+use Rattle.ec_model.specs.declared.live.HashView.TheVariants.{Idle}
+use Rattle.ec_model.specs.Ranges.{Range, is_flash_size, overlaps, wp_ro_range}
+use Rattle.ec_model.specs.Table.{Core}
+use Rattle.ec_model.specs.Hash.{touched}
+
+-- off: only the flash is left
+pub record OffView : Type 0 where
+  pub device : DeviceView
+
+-- on
+pub record RunView : Type 0 where
+  pub device : DeviceView
+  pub pin : Bool
+  pub live : Live
+  pub nonce : List ℕ
+
+-- what is on, with these bytes in the flash
+abbrev pub core_at : RunView → List ℕ → Core
+core_at run flash = record { flash = flash; pin = run.pin; live = run.live; nonce = run.nonce }
+
+-- what is on, where the flash tells its bytes
+abbrev pub told_core : RunView → Option Core
+told_core run = option_map (core_at run) run.device.held
+
+-- the locks of a flash of this size
+abbrev pub locks_of : ℕ → Bool → Bool → List Bool
+locks_of size ro all =
+    if all then with_locked 0 (size / block_size) no_locks else
+    if ro then with_locked 0 (size / 2 / block_size) no_locks else
+    no_locks
+
+-- whether the locks of the live state cover some byte of a range
+abbrev pub is_lock_blocked : ℕ → Live → Range → Bool
+is_lock_blocked size live range = (live.ro_now && overlaps range (wp_ro_range size)) || live.all_now
+
+-- what holds of each state that is on
+pub record IsRunning (ctl : CtlView) (live : Live) : Type 0 where
+  pub size : IsTrue (is_flash_size ctl.device.extent)
+  pub locks : ctl.locks ≡ locks_of ctl.device.extent live.ro_now live.all_now
+  pub all_with_ro : IsTrue live.all_now → IsTrue live.ro_now
+  pub copy : live.copy ≡ Ro
+  pub hash : live.hash ≡ Idle
+  pub erase : live.erase ≡ None
+
+-- a boot looked at the device once; `unread` says that this failed
+pub record IsLookedAt (unread : Bool) (old new : DeviceView) : Type 0 where
+  pub kept : new.held ≡ old.held
+  pub extent : new.extent ≡ old.extent
+  pub faults : old.faults ≤ new.faults
+  pub failed : IsTrue unread → Rose old.faults new.faults
+  pub cuts : old.cuts ≤ new.cuts
+  pub wear : new.wear ≡ old.wear
+  pub fetched : new.fetched ≡ raised_by 8 old.fetched
+
+-- a change of a range by the device, on a controller that is on: a hash over the range is dropped
+pub record IsDone {T : Type 0} (at size : ℕ) (made : List ℕ → List ℕ) (old new : RunView) (result : Result T DevErr) : Type 0 where
+  pub change : IsChange at size made old.device new.device result
+  pub pin : new.pin ≡ old.pin
+  pub ro_now : new.live.ro_now ≡ old.live.ro_now
+  pub all_now : new.live.all_now ≡ old.live.all_now
+  pub rest : (flash : List ℕ) → core_at new flash ≡ touched (record { at = at; size = size }) (core_at old flash)
+
+-- a change of a range: refused exactly where a block of it is locked, and then nothing was called; and else the device's
+abbrev pub IsOperated : {T : Type 0} → ℕ → ℕ → (List ℕ → List ℕ) → RunView → RunView → Result T CtlErr → Type 0
+IsOperated {T} at size made old new (Ok x) =
+    IsFalse (is_lock_blocked old.device.extent old.live (record { at = at; size = size })) × IsDone {T = T} at size made old new (Ok x)
+IsOperated at size made old new (Err Locked) =
+    IsTrue (is_lock_blocked old.device.extent old.live (record { at = at; size = size })) × (new ≡ old)
+IsOperated {T} at size made old new (Err (Device error)) =
+    IsFalse (is_lock_blocked old.device.extent old.live (record { at = at; size = size })) × IsDone {T = T} at size made old new (Err error)

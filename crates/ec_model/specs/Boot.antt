@@ -1,0 +1,43 @@
+-- The state after power-on or a reset.
+use Rattle.std.specs.Prelude.{ℕ, Bool, false, not, ◌&&◌, ◌||◌, List, [], None}
+use Rattle.ec_types.specs.Tables.{cause_flags}
+use Rattle.ec_types.specs.declared.reset.ResetCause.{ResetCause}
+use Rattle.ec_types.specs.declared.bus.BusKind.{BusKind}
+use Rattle.ec_types.specs.declared.image.ImageCopy.TheVariants.{Ro}
+use Rattle.ec_model.specs.declared.live.HashView.TheVariants.{Idle}
+use Rattle.ec_model.specs.declared.live.Live.{Live}
+use Rattle.ec_model.specs.Stored.{stored}
+use Rattle.ec_model.specs.Bus.{fresh_bus}
+use Rattle.ec_model.specs.Table.{Core, Table, table_of}
+
+-- whether a boot locks the RO blocks. `unread` says that the stored protection could not be read
+abbrev pub boots_ro_locked : List ℕ → Bool → Bool → Bool
+boots_ro_locked flash pin unread = pin && ((stored flash).ro || unread)
+
+-- whether a boot locks all blocks
+abbrev pub boots_all_locked : List ℕ → Bool → Bool → Bool
+boots_all_locked flash pin unread = boots_ro_locked flash pin unread && not unread && (stored flash).all
+
+-- the live state after a boot: RO runs
+abbrev pub booted_live : List ℕ → Bool → ResetCause → Bool → Live
+booted_live flash pin cause unread =
+    record {
+      copy = Ro;
+      flags = cause_flags cause;
+      jumped = false;
+      ro_now = boots_ro_locked flash pin unread;
+      all_now = boots_all_locked flash pin unread;
+      pstate_bad = unread;
+      jump_off = false;
+      hash = Idle;
+      erase = None;
+      saved = 9;
+    }
+
+-- a boot, without the bus
+abbrev pub booted : List ℕ → Bool → ResetCause → Bool → Core
+booted flash pin cause unread = record { flash = flash; pin = pin; live = booted_live flash pin cause unread; nonce = [] }
+
+-- a boot, with a fresh bus
+abbrev pub booted_table : List ℕ → Bool → BusKind → ResetCause → Bool → Table
+booted_table flash pin kind cause unread = table_of (booted flash pin cause unread) (fresh_bus kind)

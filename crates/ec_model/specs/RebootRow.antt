@@ -1,0 +1,35 @@
+-- The command that jumps and resets.
+use Rattle.std.specs.Prelude.{ℕ, Bool, true, false, not, ◌==◌, if◌then◌else◌, List, [], slice_index, Option, Some, None}
+use Rattle.ec_types.specs.declared.image.ImageCopy.{ImageCopy}
+use Rattle.ec_types.specs.declared.image.ImageCopy.TheVariants.{Ro, Rw}
+use Rattle.ec_model.specs.Table.{Core}
+use Rattle.ec_model.specs.Jump.{jump_status, after_jump, reads_head}
+use Rattle.ec_model.specs.Answer.{Outcome, Answered, Restarts, refused, done}
+
+-- a jump is asked for
+abbrev pub jump_row : ImageCopy → Core → Outcome
+jump_row target core = Answered (after_jump target core) (jump_status target core) []
+
+-- REBOOT_EC: cmd is at 0, and the flags at 1
+abbrev pub reboot_row : Core → List ℕ → Outcome
+reboot_row core body =
+    if not (slice_index body 1 == 0) then refused core 3 else
+    if slice_index body 0 == 0 then done core else
+    if slice_index body 0 == 1 then jump_row Ro core else
+    if slice_index body 0 == 2 then jump_row Rw core else
+    if slice_index body 0 == 4 then Restarts else
+    if slice_index body 0 == 5 then done (record core { live = record core.live { jump_off = true } }) else
+    refused core 3
+
+-- the image that a body asks a jump to, if it does
+abbrev pub jump_target : List ℕ → Option ImageCopy
+jump_target body =
+    if not (slice_index body 1 == 0) then None else
+    if slice_index body 0 == 1 then Some Ro else
+    if slice_index body 0 == 2 then Some Rw else
+    None
+
+-- whether a jump to that image looks at its head
+abbrev pub reads_target : Option ImageCopy → Core → Bool
+reads_target None core = false
+reads_target (Some target) core = reads_head target core

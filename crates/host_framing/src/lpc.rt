@@ -1,0 +1,160 @@
+// The sequences on LPC.
+ghost use Rattle.std.specs.Prelude.{◌≡◌, ◌≤◌, ◌+◌, ◌∷◌, [], ℕ, length};
+ghost use Rattle.ec_model.specs.Packet.{response_length};
+ghost use Rattle.ec_model.specs.Bus.{is_busy};
+ghost use Rattle.ec_types.specs.declared.bus.BusKind.TheVariants.{Lpc as LpcKind};
+ghost use Rattle.host_framing.specs.Parts.{PollsWaited, PollsSpaced, WritesPorts, ReadsPorts, LpcAsks, LpcHears, Quiets, Sends};
+ghost use Rattle.host_framing.specs.Heard.{heard_of};
+ghost use Rattle.host_framing.specs.Clean.{ServesWhereCalm, SettlesWhereCalm, CausedWhereCalm, RestsBehind};
+ghost use Rattle.host_runs.specs.Served.{IsPlain};
+
+use crate::calls::{Raw, did, judge, waited};
+use ec_model::Access;
+use ec_packet::Packet;
+use ec_wire::Wire;
+
+// Whether a status says busy.
+fn busy(status: u8) -> bool
+    ensures { result ≡ is_busy status }
+{
+    status & 0x06 != 0
+}
+
+// Waits and reads the status until it is not busy, at most four times.
+fn poll_waited<W: Wire>(w: &mut W) -> bool
+    requires { 8 ≤ (W.view w.old).spare }
+    ensures polls { PollsWaited result (W.view w.old) (W.view w.new) }
+    ensures room { (W.view w.old).spare ≤ (W.view w.new).spare + 8 }
+{
+    for turn in 0..4u8 {
+        waited(w);
+        let status = did(w, Access::PortIn { port: 0x204 });
+        if !busy(status) {
+            return true;
+        }
+    }
+    false
+}
+
+// Reads the status until it is not busy, with a wait between each two reads, at most five times.
+fn poll_spaced<W: Wire>(w: &mut W) -> bool
+    requires { 9 ≤ (W.view w.old).spare }
+    ensures polls { PollsSpaced result (W.view w.old) (W.view w.new) }
+    ensures room { (W.view w.old).spare ≤ (W.view w.new).spare + 9 }
+{
+    let status = did(w, Access::PortIn { port: 0x204 });
+    if !busy(status) {
+        return true;
+    }
+    poll_waited(w)
+}
+
+// Writes the bytes to the window.
+fn write_window<W: Wire>(w: &mut W, bytes: &[u8])
+    requires short { length bytes.now ≤ 256 }
+    requires room { length bytes.now ≤ (W.view w.old).spare }
+    ensures writes { WritesPorts bytes.now (W.view w.old) (W.view w.new) }
+    ensures room { (W.view w.new).spare + length bytes.now ≡ (W.view w.old).spare }
+{
+    for (place, byte) in bytes.iter().enumerate() {
+        did(
+            w,
+            Access::PortOut {
+                port: 0x800 + place as u16,
+                byte: *byte,
+            },
+        );
+    }
+}
+
+// Reads so many bytes from the ports on, and appends them.
+fn read_window<W: Wire>(w: &mut W, port: u16, count: u16, reply: &mut Packet)
+    requires ports { port + count ≤ 65535 }
+    requires short { length reply.old + count ≤ 544 }
+    requires room { count ≤ (W.view w.old).spare }
+    ensures reads { ReadsPorts port count reply.old reply.new (W.view w.old) (W.view w.new) }
+    ensures room { (W.view w.new).spare + count ≡ (W.view w.old).spare }
+{
+    for place in 0..count {
+        let byte = did(w, Access::PortIn { port: port + place });
+        reply.push(byte);
+    }
+}
+
+// The first two steps of a send.
+fn ask_lpc<W: Wire>(w: &mut W, packet: &Packet) -> bool
+    requires short { length packet.now ≤ 256 }
+    requires room { 266 ≤ (W.view w.old).spare }
+    ensures asks { LpcAsks packet.now result (W.view w.old) (W.view w.new) }
+    ensures room { (W.view w.old).spare ≤ (W.view w.new).spare + 266 }
+{
+    if !poll_spaced(w) {
+        return false;
+    }
+    write_window(w, packet.as_slice());
+    did(
+        w,
+        Access::PortOut {
+            port: 0x204,
+            byte: 0xDA,
+        },
+    );
+    true
+}
+
+// The length that a response's header names.
+fn named_length(bytes: &[u8]) -> u16
+    requires { 8 ≤ length bytes.now }
+    ensures { result ≡ response_length bytes.now }
+{
+    bytes[4] as u16 + 256 * (bytes[5] as u16)
+}
+
+// The last two steps of a send.
+fn hear_lpc<W: Wire>(w: &mut W, reply: &mut Packet) -> Raw
+    requires { 257 ≤ (W.view w.old).spare }
+    ensures hears { LpcHears (heard_of result reply.new) (W.view w.old) (W.view w.new) }
+    ensures room { (W.view w.old).spare ≤ (W.view w.new).spare + 257 }
+{
+    let outcome = did(w, Access::PortIn { port: 0x200 });
+    reply.clear();
+    read_window(w, 0x800, 8, reply);
+    let named = named_length(reply.as_slice());
+    if named > 248 {
+        return Raw::Bad;
+    }
+    read_window(w, 0x808, named, reply);
+    judge(outcome, reply)
+}
+
+/// Brings LPC to rest.
+pub fn quiet_lpc<W: Wire>(w: &mut W)
+    requires bus { (W.view w.old).bus ≡ LpcKind }
+    requires room { 9 ≤ (W.view w.old).spare }
+    ensures quiets { Quiets LpcKind (W.view w.old) (W.view w.new) }
+    ensures calm { SettlesWhereCalm (W.view w.old) (W.view w.new) }
+    ensures room { (W.view w.old).spare ≤ (W.view w.new).spare + 9 }
+{
+    poll_spaced(w);
+}
+
+/// Sends the packet on LPC, and reads the reply.
+pub fn send_lpc<W: Wire>(w: &mut W, packet: &Packet, reply: &mut Packet) -> Raw
+    requires bus { (W.view w.old).bus ≡ LpcKind }
+    requires room { 1500 ≤ (W.view w.old).spare }
+    requires short { length packet.now ≤ 256 }
+    requires plain { IsPlain packet.now }
+    ensures sends { Sends LpcKind packet.now (heard_of result reply.new) (W.view w.old) (W.view w.new) }
+    ensures calm { ServesWhereCalm packet.now (heard_of result reply.new) (W.view w.old) (W.view w.new) }
+    ensures cause { CausedWhereCalm (heard_of result reply.new) (W.view w.old) (W.view w.new) }
+    ensures rests { RestsBehind (W.view w.old) (W.view w.new) }
+    ensures room { (W.view w.old).spare ≤ (W.view w.new).spare + 1200 }
+{
+    if !ask_lpc(w, packet) {
+        return Raw::Silent;
+    }
+    if !poll_waited(w) {
+        return Raw::Silent;
+    }
+    hear_lpc(w, reply)
+}

@@ -1,0 +1,317 @@
+-- An undisturbed send on LPC: the request is handled, and its response is heard.
+use Rattle.std.proofs.Common.{◌≡◌, refl, sym, ap, ◌∙◌, subst, ℕ, ◌+◌, ◌≤◌, Bool, true, false, ◌⊎◌, inl, inr, ◌||◌, ◌&&◌, ◌==◌, nat_le, if◌then◌else◌, List, [], ◌∷◌, ◌++◌, length, take, drop, replicate, length-append, length-drop, append_assoc, append-nil, arith, Some}
+use Rattle.std.proofs.lemmas.Bool.Decides.{leb_tells, eqb_tells}
+use Rattle.flash_dev.specs.Flash.{overwritten}
+use Rattle.ec_types.specs.declared.bus.BusKind.TheVariants.{Lpc}
+use Rattle.ec_types.specs.declared.reset.ResetCause.TheVariants.{Cold}
+use Rattle.ec_model.specs.declared.event.Access.TheVariants.{PortOut, PortIn}
+use Rattle.ec_model.specs.declared.event.Event.{Event}
+use Rattle.ec_model.specs.declared.event.Event.TheVariants.{Tick}
+use Rattle.ec_model.specs.declared.event.Entry.TheVariants.{Step}
+use Rattle.ec_model.specs.declared.event.Hurt.TheVariants.{Whole}
+use Rattle.ec_model.specs.Packet.{response_packet, response_length}
+use Rattle.ec_model.specs.Bus.{BusState, OnLpc, OnI2c, OnSpi, kind_of, is_busy, low_status}
+use Rattle.ec_model.specs.HostCalls.{HostCall, Did, Waited}
+use Rattle.ec_model.specs.Send.{Heard, Reply, poll_end, waited_reads, spaced_reads, status_in, port_reads, port_writes, LpcSend, LpcWasBlocked, LpcWasUnserved, LpcWasServed, LpcQuiet, is_all_read, reads_on, heard_if, heard_with}
+use Rattle.ec_model.specs.Table.{Table, Awake, Power, Off, On, Core, Valid, IsBusValid, core_of, table_of}
+use Rattle.ec_model.specs.Boot.{booted}
+use Rattle.ec_model.specs.Answer.{Outcome, Answered, Restarts}
+use Rattle.ec_model.specs.Handle.{handled, asked, row_of, admitted_from}
+use Rattle.ec_model.specs.Step.{EventLeavesBy, after_outcome, stepped, stepped_by}
+use Rattle.ec_model.specs.Syncable.{settled}
+use Rattle.ec_model.proofs.ValidRows.{IsCoreValid}
+use Rattle.ec_model.proofs.ShortRows.{IsShort}
+use Rattle.ec_model.proofs.ValidStep.{row_of-short}
+use Rattle.ec_model.proofs.ValidEvents.{step-valid}
+use Rattle.host_runs.specs.Calm.{CallsLead}
+use Rattle.host_runs.specs.Served.{IsAnswer, IsPlain, Serves, Settles}
+use Rattle.host_runs.proofs.Framed.{framing-append}
+use Rattle.host_runs.proofs.Response.{length-response, read-whole, heard-response}
+use Rattle.host_runs.proofs.LpcLead.{lpc, reads-lead, writes-lead, command-lead, tick-lead, ready-lead}
+
+-- a table that is on is its core with its bus
+pub as-table : (table : Table) (awake : Awake) → table.power ≡ On awake → kind_of awake.bus ≡ table.kind → table ≡ table_of (core_of table awake) awake.bus
+as-table table awake on kind = rw (kind, ← on) refl
+
+-- a table that is on, with an LPC bus that is not busy, from which calls lead on
+pub record Idled (table : Table) (ready : Bool) (calls : List HostCall) (new : Table) : Type 0 where
+  pub core : Core
+  pub window : List ℕ
+  pub status : ℕ
+  pub outcome : ℕ
+  pub same : table ≡ table_of core (lpc window status outcome)
+  pub idle : is_busy status ≡ false
+  pub ended : ready ≡ true
+  pub lead : CallsLead (table_of core (lpc window status outcome)) calls new
+
+settled-idle : (core : Core) (window : List ℕ) (status outcome : ℕ) → (status == 0x06) ≡ false → settled (table_of core (lpc window status outcome)) ≡ table_of core (lpc window status outcome)
+settled-idle core window status outcome other = rw other refl
+
+settled-served : (core : Core) (window : List ℕ) (outcome : ℕ) (result : Outcome) → handled core 256 window ≡ result →
+    settled (table_of core (lpc window 0x06 outcome)) ≡ (after_outcome core (record { state = lpc window 0x06 outcome; answer = 0 }) 0 result).table
+settled-served core window outcome result same = ap (λ (r : Outcome). (after_outcome core (record { state = lpc window 0x06 outcome; answer = 0 }) 0 r).table) same
+
+-- no request waits
+idle-lead : (core : Core) (window : List ℕ) (status outcome : ℕ) (statuses : List ℕ) (ready : Bool) (calls : List HostCall) (new : Table) → is_busy status ≡ false → (status == 0x06) ≡ false → poll_end is_busy 5 statuses ≡ Some ready →
+    CallsLead (table_of core (lpc window status outcome)) (spaced_reads status_in statuses ++ calls) new → Idled (settled (table_of core (lpc window status outcome))) ready calls new
+idle-lead core window status outcome [] ready calls new idle other polled lead = absurd (cc)
+idle-lead core window status outcome (byte ∷ bytes) ready calls new idle other polled lead =
+    let end = ready-lead core window status outcome 4 byte bytes ready calls new idle polled lead in
+    record { core = core; window = window; status = status; outcome = outcome; same = settled-idle core window status outcome other; idle = idle; ended = end.0; lead = end.1 }
+
+-- a request waits, and the first wait has it handled
+served-lead : (core : Core) (window : List ℕ) (outcome next : ℕ) (bytes : List ℕ) (ready : Bool) (calls : List HostCall) (new : Table) (result : Outcome) → handled core 256 window ≡ result → poll_end is_busy 4 (next ∷ bytes) ≡ Some ready →
+    CallsLead (table_of core (lpc window 0x06 outcome)) (Waited ∷ Did status_in next ∷ (waited_reads status_in bytes ++ calls)) new → Idled (settled (table_of core (lpc window 0x06 outcome))) ready calls new
+served-lead core window outcome next bytes ready calls new (Answered after status body) same polled lead =
+    let reply = response_packet status body in
+    let moved = tick-lead core window outcome (Answered after status body) (Did status_in next ∷ (waited_reads status_in bytes ++ calls)) new same lead in
+    let end = ready-lead after (overwritten 0 reply window) 0x01 (low_status reply) 3 next bytes ready calls new refl polled moved in
+    record { core = after; window = overwritten 0 reply window; status = 0x01; outcome = low_status reply; same = settled-served core window outcome _ same; idle = refl; ended = end.0; lead = end.1 }
+served-lead core window outcome next bytes ready calls new Restarts same polled lead =
+    let fresh = booted core.flash core.pin Cold false in
+    let moved = tick-lead core window outcome Restarts (Did status_in next ∷ (waited_reads status_in bytes ++ calls)) new same lead in
+    let end = ready-lead fresh (replicate 256 0) 0 0 3 next bytes ready calls new refl polled moved in
+    record { core = fresh; window = replicate 256 0; status = 0; outcome = 0; same = settled-served core window outcome _ same; idle = refl; ended = end.0; lead = end.1 }
+
+busy-lead : (core : Core) (window : List ℕ) (outcome : ℕ) (statuses : List ℕ) (ready : Bool) (calls : List HostCall) (new : Table) → poll_end is_busy 5 statuses ≡ Some ready →
+    CallsLead (table_of core (lpc window 0x06 outcome)) (spaced_reads status_in statuses ++ calls) new → Idled (settled (table_of core (lpc window 0x06 outcome))) ready calls new
+busy-lead core window outcome [] ready calls new polled lead = absurd (cc)
+busy-lead core window outcome (byte ∷ []) ready calls new polled lead =
+    let seen : is_busy byte ≡ true = ap (λ (n : ℕ). is_busy n) lead.0 in
+    let ended = rw seen at polled in
+    absurd (cc)
+busy-lead core window outcome (byte ∷ next ∷ bytes) ready calls new polled lead =
+    let seen : is_busy byte ≡ true = ap (λ (n : ℕ). is_busy n) lead.0 in
+    let ended = rw seen at polled in
+    served-lead core window outcome next bytes ready calls new (handled core 256 window) refl ended lead.1
+
+which : (status : ℕ) → ((status == 0x00) || (status == 0x01) || (status == 0x06)) ≡ true → (status ≡ 0) ⊎ ((status ≡ 1) ⊎ (status ≡ 6))
+which status shown = grind (arith, eqb_tells)
+
+by-status : (core : Core) (window : List ℕ) (status outcome : ℕ) (statuses : List ℕ) (ready : Bool) (calls : List HostCall) (new : Table) → (status ≡ 0) ⊎ ((status ≡ 1) ⊎ (status ≡ 6)) → poll_end is_busy 5 statuses ≡ Some ready →
+    CallsLead (table_of core (lpc window status outcome)) (spaced_reads status_in statuses ++ calls) new → Idled (settled (table_of core (lpc window status outcome))) ready calls new
+by-status core window status outcome statuses ready calls new (inl none) polled lead = idle-lead core window status outcome statuses ready calls new (rw none refl) (rw none refl) polled lead
+by-status core window status outcome statuses ready calls new (inr (inl replied)) polled lead = idle-lead core window status outcome statuses ready calls new (rw replied refl) (rw replied refl) polled lead
+by-status core window status outcome statuses ready calls new (inr (inr waiting)) polled lead =
+    let family : ℕ → Type 0 = λ n. CallsLead (table_of core (lpc window n outcome)) (spaced_reads status_in statuses ++ calls) new → Idled (settled (table_of core (lpc window n outcome))) ready calls new in
+    let at_six : family 6 = λ six. busy-lead core window outcome statuses ready calls new polled six in
+    subst family (sym waiting) at_six lead
+
+-- the first poll leaves the settled table
+pub idled : (core : Core) (bus : BusState) (statuses : List ℕ) (ready : Bool) (calls : List HostCall) (new : Table) → kind_of bus ≡ Lpc → IsBusValid bus → poll_end is_busy 5 statuses ≡ Some ready →
+    CallsLead (table_of core bus) (spaced_reads status_in statuses ++ calls) new → Idled (settled (table_of core bus)) ready calls new
+idled core (OnLpc state) statuses ready calls new kind valid polled lead = by-status core state.window state.status state.outcome statuses ready calls new (which state.status valid.1) polled lead
+idled core (OnI2c state) statuses ready calls new kind valid polled lead = absurd (cc)
+idled core (OnSpi state) statuses ready calls new kind valid polled lead = absurd (cc)
+
+-- a settled table is valid
+whole-leaves : (table : Table) (event : Event) (power : Power) → EventLeavesBy Whole table event power (stepped_by table event power)
+whole-leaves table event Off = refl
+whole-leaves table event (On awake) = refl
+
+settled-by-valid : (table : Table) (waits : Bool) → Valid table → Valid (if waits then (stepped table Tick).table else table)
+settled-by-valid table true valid = step-valid table (Step Tick (stepped table Tick).answer 0 0 Whole) (stepped table Tick).table valid (whole-leaves table Tick table.power)
+settled-by-valid table false valid = valid
+
+-- the request is served by the first wait, and the poll behind it ends at once
+serve-lead : (core after : Core) (window : List ℕ) (outcome status : ℕ) (body statuses : List ℕ) (ready : Bool) (calls : List HostCall) (new : Table) → handled core 256 window ≡ Answered after status body → poll_end is_busy 4 statuses ≡ Some ready →
+    CallsLead (table_of core (lpc window 0x06 outcome)) (waited_reads status_in statuses ++ calls) new →
+    (ready ≡ true) × CallsLead (table_of after (lpc (overwritten 0 (response_packet status body) window) 0x01 (low_status (response_packet status body)))) calls new
+serve-lead core after window outcome status body [] ready calls new same polled lead = absurd (cc)
+serve-lead core after window outcome status body (next ∷ bytes) ready calls new same polled lead =
+    ready-lead after _ 0x01 _ 3 next bytes ready calls new refl polled (tick-lead core window outcome (Answered after status body) (Did status_in next ∷ (waited_reads status_in bytes ++ calls)) new same lead)
+
+-- at most the window is read
+read-short : (on : Bool) (bytes : List ℕ) → on ≡ nat_le (response_length bytes) 248 → is_all_read on bytes ≡ true → length bytes ≤ 256
+read-short true bytes on all = long (response_length bytes) (length bytes) (sym on) all where
+  long : (named size : ℕ) → nat_le named 248 ≡ true → (nat_le 8 size && (size == 8 + named)) ≡ true → size ≤ 256
+  long named size short both = grind (arith, leb_tells, eqb_tells)
+read-short false bytes on all = header (length bytes) all where
+  header : (size : ℕ) → (nat_le 8 size && (size == 8)) ≡ true → size ≤ 256
+  header size both = grind (arith, leb_tells, eqb_tells)
+
+-- the host reads the reply from the window
+hear-lead : (after : Core) (window : List ℕ) (status outcome : ℕ) (body rest bytes : List ℕ) (heard : Heard) (new : Table) → length window ≡ 256 → window ≡ response_packet status body ++ rest → length body ≤ 248 → is_all_read (reads_on 248 bytes) bytes ≡ true →
+    heard ≡ heard_if (reads_on 248 bytes) (heard_with outcome bytes) → CallsLead (table_of after (lpc window 0x01 (low_status (response_packet status body)))) (Did (PortIn 0x200) outcome ∷ port_reads 0x800 bytes) new →
+    (heard ≡ Reply (response_packet status body)) × (new ≡ table_of after (lpc window 0 (low_status (response_packet status body))))
+hear-lead after window status outcome body rest bytes heard new size front short all heard_is lead =
+    let reply = response_packet status body in
+    let padded = subst (λ (calls : List HostCall). CallsLead (table_of after (lpc window 0 (low_status reply))) calls new) (sym (append-nil (port_reads 0x800 bytes))) lead.1 in
+    let read = reads-lead after (record { window = window; status = 0; outcome = low_status reply }) 0x800 0 bytes [] new refl (omega (arith, read-short (reads_on 248 bytes) bytes refl all)) size padded in
+    let whole = read-whole 0 status body rest bytes short (read.0 ∙ ap (λ (xs : List ℕ). take (length bytes) xs) front) all in
+    let judged : heard_with outcome bytes ≡ Reply reply = ap (λ (n : ℕ). heard_with n bytes) lead.0 ∙ ap (λ (xs : List ℕ). heard_with (low_status reply) xs) whole.0 ∙ heard-response status body (omega (arith, short)) in
+    (heard_is ∙ ap (λ (on : Bool). heard_if on (heard_with outcome bytes)) whole.1 ∙ judged, read.1)
+
+regroup : (a b c d : List HostCall) (x : HostCall) → a ++ b ++ x ∷ [] ++ c ++ d ≡ a ++ (b ++ (x ∷ (c ++ d)))
+regroup a b c d x = simp append_assoc
+
+regroup3 : (a b c : List HostCall) (x : HostCall) → a ++ b ++ x ∷ [] ++ c ≡ a ++ (b ++ (x ∷ (c ++ [])))
+regroup3 a b c x = simp (append_assoc, append-nil)
+
+-- the core and the window of a valid table
+core-valid : (core : Core) (window : List ℕ) (status outcome : ℕ) → Valid (table_of core (lpc window status outcome)) → IsCoreValid core
+core-valid core window status outcome valid =
+    record { size = valid.size; all_with_ro = valid.power.all_with_ro; jumped = valid.power.jumped; erase = valid.power.erase; hash = valid.power.hash }
+
+window-whole : (core : Core) (window : List ℕ) (status outcome : ℕ) → Valid (table_of core (lpc window status outcome)) → length window ≡ 256
+window-whole core window status outcome valid = valid.power.bus.0
+
+-- the calls behind the first poll
+abbrev pub served_calls : List ℕ → List ℕ → ℕ → List ℕ → List HostCall → List HostCall
+served_calls packet gots got statuses tail = port_writes 0x800 packet gots ++ (Did (PortOut 0x204 0xDA) got ∷ (waited_reads status_in statuses ++ tail))
+
+-- from a bus that is not busy: the request is written, served, and the poll behind it ends
+record Asked (core : Core) (packet : List ℕ) (ready : Bool) (tail : List HostCall) (new : Table) : Type 0 where
+  pub after : Core
+  pub status : ℕ
+  pub body : List ℕ
+  pub rest : List ℕ
+  pub window : List ℕ
+  pub handled_is : handled core 256 packet ≡ Answered after status body
+  pub short : length body ≤ 248
+  pub front : window ≡ response_packet status body ++ rest
+  pub size : length window ≡ 256
+  pub ended : ready ≡ true
+  pub lead : CallsLead (table_of after (lpc window 0x01 (low_status (response_packet status body)))) tail new
+
+overwritten-size : (bytes window : List ℕ) → length window ≡ 256 → length bytes ≤ 256 → length (overwritten 0 bytes window) ≡ 256
+overwritten-size bytes window size short = omega (arith, length-append bytes (drop (0 + length bytes) window), length-drop (0 + length bytes) window, size, short)
+
+handled-window : (core : Core) (packet window : List ℕ) → IsPlain packet → handled core 256 (overwritten 0 packet window) ≡ handled core 256 packet
+handled-window core packet window plain = ap (λ (f : _). row_of core 256 (admitted_from core f)) (framing-append packet (drop (0 + length packet) window) plain.header plain.whole)
+
+asked-by : (core : Core) (window : List ℕ) (status outcome : ℕ) (packet gots : List ℕ) (got : ℕ) (statuses : List ℕ) (ready : Bool) (tail : List HostCall) (new : Table) (result : Outcome) →
+    IsCoreValid core → length window ≡ 256 → is_busy status ≡ false → IsPlain packet → length packet ≤ 256 → length gots ≡ length packet → poll_end is_busy 4 statuses ≡ Some ready →
+    handled core 256 packet ≡ result → IsAnswer result → IsShort result → CallsLead (table_of core (lpc window status outcome)) (served_calls packet gots got statuses tail) new → Asked core packet ready tail new
+asked-by core window status outcome packet gots got statuses ready tail new Restarts valid size idle plain short each polled same answer fits lead = absurd answer
+asked-by core window status outcome packet gots got statuses ready tail new (Answered after result body) valid size idle plain short each polled same answer fits lead =
+    let asked_window = overwritten 0 packet window in
+    let asked_size = overwritten-size packet window size short in
+    let written = writes-lead core window status outcome 0x800 0 packet gots (Did (PortOut 0x204 0xDA) got ∷ (waited_reads status_in statuses ++ tail)) new refl (omega (arith, short)) size idle each lead in
+    let commanded = command-lead core asked_window status outcome got (waited_reads status_in statuses ++ tail) new idle written in
+    let served = serve-lead core after asked_window 0xFF result body statuses ready tail new (handled-window core packet window plain ∙ same) polled commanded in
+    record {
+      after = after;
+      status = result;
+      body = body;
+      rest = drop (0 + length (response_packet result body)) asked_window;
+      window = overwritten 0 (response_packet result body) asked_window;
+      handled_is = same;
+      short = fits;
+      front = refl;
+      size = overwritten-size (response_packet result body) asked_window asked_size (omega (arith, length-response result body, fits));
+      ended = served.0;
+      lead = served.1;
+    }
+
+asked-from : (table : Table) (packet gots : List ℕ) (got : ℕ) (statuses : List ℕ) (first ready : Bool) (tail : List HostCall) (new : Table) → Valid table → IsPlain packet → length packet ≤ 256 → length gots ≡ length packet → poll_end is_busy 4 statuses ≡ Some ready →
+    (at : Idled table first (served_calls packet gots got statuses tail) new) → Asked at.core packet ready tail new
+asked-from table packet gots got statuses first ready tail new valid plain short each polled at =
+    let placed = subst (λ (t : Table). Valid t) at.same valid in
+    let valid_core = core-valid at.core at.window at.status at.outcome placed in
+    asked-by at.core at.window at.status at.outcome packet gots got statuses ready tail new (handled at.core 256 packet) valid_core (window-whole at.core at.window at.status at.outcome placed) at.idle plain short each polled refl (plain.answered at.core 256) (row_of-short at.core (asked at.core packet) valid_core) at.lead
+
+-- the whole of a send that was served, from the settled table
+served-whole : (table : Table) (packet gots : List ℕ) (got : ℕ) (statuses : List ℕ) (first : Bool) (outcome : ℕ) (bytes : List ℕ) (heard : Heard) (new : Table) → Valid table → IsPlain packet → length packet ≤ 256 → length gots ≡ length packet → poll_end is_busy 4 statuses ≡ Some true →
+    is_all_read (reads_on 248 bytes) bytes ≡ true → heard ≡ heard_if (reads_on 248 bytes) (heard_with outcome bytes) →
+    Idled table first (served_calls packet gots got statuses (Did (PortIn 0x200) outcome ∷ port_reads 0x800 bytes)) new → Serves packet table heard new
+served-whole table packet gots got statuses first outcome bytes heard new valid plain short each polled all heard_is at =
+    let asks = asked-from table packet gots got statuses first true (Did (PortIn 0x200) outcome ∷ port_reads 0x800 bytes) new valid plain short each polled at in
+    let hears = hear-lead asks.after asks.window asks.status outcome asks.body asks.rest bytes heard new asks.size asks.front asks.short all heard_is asks.lead in
+    let bus = lpc at.window at.status at.outcome in
+    let serves : Serves packet (table_of at.core bus) heard new =
+    record {
+      awake = record { live = at.core.live; nonce = at.core.nonce; bus = bus };
+      on = refl;
+      after = asks.after;
+      status = asks.status;
+      body = asks.body;
+      handled_is = asks.handled_is;
+      heard_is = hears.0;
+      leaves = record { bus = lpc asks.window 0 (low_status (response_packet asks.status asks.body)); same = hears.1; none_waits = refl };
+      kind = ap (λ (t : Table). t.kind) hears.1;
+    } in
+    subst (λ (t : Table). Serves packet t heard new) (sym at.same) serves
+
+-- the entry table of a call, with its core and its bus
+lead-at : (table : Table) (awake : Awake) (calls : List HostCall) (new : Table) → table ≡ table_of (core_of table awake) awake.bus → CallsLead table calls new → CallsLead (table_of (core_of table awake) awake.bus) calls new
+lead-at table awake calls new same lead = subst (λ (t : Table). CallsLead t calls new) same lead
+
+settled-by-awake : (table : Table) (awake : Awake) → table ≡ table_of (core_of table awake) awake.bus → settled (table_of (core_of table awake) awake.bus) ≡ settled table
+settled-by-awake table awake same = ap (λ (t : Table). settled t) (sym same)
+
+pub settled-valid : (table : Table) (awake : Awake) → table ≡ table_of (core_of table awake) awake.bus → Valid table → Valid (settled (table_of (core_of table awake) awake.bus))
+settled-valid table awake same valid = settled-by-valid (table_of (core_of table awake) awake.bus) _ (subst (λ (t : Table). Valid t) same valid)
+
+idled-at : (table : Table) (awake : Awake) (statuses : List ℕ) (ready : Bool) (calls tail : List HostCall) (new : Table) → Valid table → table.power ≡ On awake → table.kind ≡ Lpc → kind_of awake.bus ≡ table.kind → IsBusValid awake.bus → poll_end is_busy 5 statuses ≡ Some ready →
+    calls ≡ spaced_reads status_in statuses ++ tail → CallsLead table calls new → Idled (settled (table_of (core_of table awake) awake.bus)) ready tail new
+idled-at table awake statuses ready calls tail new valid on lpc_kind kind bus polled grouped lead =
+    let same = as-table table awake on kind in
+    let led = subst (λ (xs : List HostCall). CallsLead (table_of (core_of table awake) awake.bus) xs new) grouped (lead-at table awake calls new same lead) in
+    idled (core_of table awake) awake.bus statuses ready tail new (kind ∙ lpc_kind) bus polled led
+
+-- what a valid table that is on says of its bus
+pub record BusFacts (table : Table) (awake : Awake) : Type 0 where
+  pub kind : kind_of awake.bus ≡ table.kind
+  pub valid : IsBusValid awake.bus
+  pub core : IsCoreValid (core_of table awake)
+
+pub bus-facts : (table : Table) (awake : Awake) → Valid table → table.power ≡ On awake → BusFacts table awake
+bus-facts table awake valid on =
+    let awake_valid = rw on at valid.power in
+    record { kind = awake_valid.bus_kind; valid = awake_valid.bus; core = record { size = valid.size; all_with_ro = awake_valid.all_with_ro; jumped = awake_valid.jumped; erase = awake_valid.erase; hash = awake_valid.hash } }
+
+pub lpc-calm : (table : Table) (awake : Awake) (packet : List ℕ) (calls : List HostCall) (heard : Heard) (new : Table) → Valid table → table.power ≡ On awake → table.kind ≡ Lpc → IsPlain packet → length packet ≤ 256 →
+    LpcSend packet calls heard → CallsLead table calls new → Serves packet (settled table) heard new
+lpc-calm table awake packet calls heard new valid on kind plain short (LpcWasBlocked blocked silent) lead =
+    let facts = bus-facts table awake valid on in
+    let at = idled-at table awake blocked.statuses false calls [] new valid on kind facts.kind facts.valid blocked.busy (blocked.made ∙ sym (append-nil (spaced_reads status_in blocked.statuses))) lead in
+    absurd (let e : false ≡ true = at.ended in cc)
+lpc-calm table awake packet calls heard new valid on kind plain short (LpcWasUnserved unserved silent) lead =
+    let facts = bus-facts table awake valid on in
+    let asked = unserved.asked in
+    let same = as-table table awake on facts.kind in
+    let grouped : calls ≡ spaced_reads status_in asked.statuses ++ served_calls packet asked.gots asked.got unserved.statuses [] =
+    unserved.made ∙ ap (λ (xs : List HostCall). xs ++ waited_reads status_in unserved.statuses) asked.made ∙ regroup3 (spaced_reads status_in asked.statuses) (port_writes 0x800 packet asked.gots) (waited_reads status_in unserved.statuses) (Did (PortOut 0x204 0xDA) asked.got) in
+    let at = idled-at table awake asked.statuses true calls (served_calls packet asked.gots asked.got unserved.statuses []) new valid on kind facts.kind facts.valid asked.idle grouped lead in
+    let asks = asked-from _ packet asked.gots asked.got unserved.statuses true false [] new (settled-valid table awake same valid) plain short asked.each unserved.busy at in
+    absurd (let e : false ≡ true = asks.ended in cc)
+lpc-calm table awake packet calls heard new valid on kind plain short (LpcWasServed served) lead =
+    let facts = bus-facts table awake valid on in
+    let asked = served.asked in
+    let same = as-table table awake on facts.kind in
+    let tail = Did (PortIn 0x200) served.outcome ∷ port_reads 0x800 served.bytes in
+    let grouped : calls ≡ spaced_reads status_in asked.statuses ++ served_calls packet asked.gots asked.got served.statuses tail =
+    served.made ∙ ap (λ (xs : List HostCall). xs ++ waited_reads status_in served.statuses ++ tail) asked.made ∙ regroup (spaced_reads status_in asked.statuses) (port_writes 0x800 packet asked.gots) (waited_reads status_in served.statuses) tail (Did (PortOut 0x204 0xDA) asked.got) in
+    let at = idled-at table awake asked.statuses true calls (served_calls packet asked.gots asked.got served.statuses tail) new valid on kind facts.kind facts.valid asked.idle grouped lead in
+    subst (λ (t : Table). Serves packet t heard new) (settled-by-awake table awake same)
+    (served-whole (settled (table_of (core_of table awake) awake.bus)) packet asked.gots asked.got served.statuses true served.outcome served.bytes heard new (settled-valid table awake same valid) plain short asked.each served.idle served.whole served.heard_is at)
+
+-- a status that is not busy is none of a request that waits
+six-or : (status : ℕ) (six : Bool) → (status == 0x06) ≡ six → is_busy status ≡ false → six ≡ false
+six-or status false same idle = refl
+six-or status true same idle =
+    let at : status ≡ 6 = eq-of status same in
+    absurd (let e : is_busy 6 ≡ false = subst (λ (n : ℕ). is_busy n ≡ false) at idle in cc) where
+      eq-of : (n : ℕ) → (n == 0x06) ≡ true → n ≡ 6
+      eq-of n same = grind (arith, eqb_tells)
+
+idle-is-not-six : (status : ℕ) → is_busy status ≡ false → (status == 0x06) ≡ false
+idle-is-not-six status idle = six-or status (status == 0x06) refl idle
+
+-- a poll leaves the settled table, and no request waits
+pub lpc-quiet : (table : Table) (awake : Awake) (calls : List HostCall) (new : Table) → Valid table → table.power ≡ On awake → table.kind ≡ Lpc → LpcQuiet calls → CallsLead table calls new → Settles (settled table) new
+lpc-quiet table awake calls new valid on kind quiet lead =
+    let facts = bus-facts table awake valid on in
+    let same = as-table table awake on facts.kind in
+    let at = idled-at table awake quiet.statuses quiet.ready calls [] new valid on kind facts.kind facts.valid quiet.polled (quiet.made ∙ sym (append-nil (spaced_reads status_in quiet.statuses))) lead in
+    let bus = lpc at.window at.status at.outcome in
+    let none = idle-is-not-six at.status at.idle in
+    let settles : Settles (table_of at.core bus) new =
+    record {
+      awake = record { live = at.core.live; nonce = at.core.nonce; bus = bus };
+      on = refl;
+      leaves = record { bus = bus; same = at.lead; none_waits = rw none refl };
+      kind = ap (λ (t : Table). t.kind) at.lead;
+    } in
+    subst (λ (t : Table). Settles t new) (settled-by-awake table awake same) (subst (λ (t : Table). Settles t new) (sym at.same) settles)
