@@ -24,6 +24,5 @@ returns-in_default-clause-work g c = λ request answer lost asked.
     let after = c.serve_packet.new.reply in
     let leaves = leaves-at c.args.on c.serve_packet.new.on after.hurt c.limit_of-limit.result (packet_limit (kind_of bus)) c.asked.result.now request after.status after.body limit_is
         (same-some c.asked.result.now request _ c.asked.ensures.asked asked) c.serve_packet.ensures.leaves in
-    let packet_is : c.encode_response.new.out ≡ response_packet after.status after.body = c.encode_response.ensures.packet ∙ ap (response_packet after.status) c.as_slice.ensures in
-    up-told g.row.F.Denot after.hurt c.args.on c.serve_packet.new.on bus (g.B.Bus.state c.reply.new.self) g.B.Bus.bus answer lost request after.status after.body c.in_default.not-Cut
-    (c.reply.ensures ∙ ap (λ (packet : List ℕ). replied packet bus) packet_is) leaves
+    up-told g.row.F.Denot after.hurt c.args.on c.serve_packet.new.on bus (g.B.Bus.state c.respond.new.bus) g.B.Bus.bus answer lost request after.status after.body c.in_default.not-Cut
+    (c.respond.ensures ∙ ap (λ (body : List ℕ). replied (response_packet after.status body) bus) c.as_slice.ensures.bytes) leaves
