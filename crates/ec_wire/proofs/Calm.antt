@@ -36,7 +36,7 @@ none-any test (entry ∷ entries) none =
     (sym (sum_by-cons (λ (e : Entry). cond (test e) 1 0) entry entries) ∙ none) (none-any test entries)
 
 -- neither of two tests holds
-or-false : (a b : Bool) → (a || b) ≡ false → (a ≡ false) × (b ≡ false)
+pub or-false : (a b : Bool) → (a || b) ≡ false → (a ≡ false) × (b ≡ false)
 or-false true b same = (same, cc)
 or-false false b same = (refl, same)
 
