@@ -2,12 +2,14 @@
 #![tactic(auto)]
 
 mod adapters;
+mod file_flash;
 mod memory_sink;
 mod memory_source;
 mod sink;
 mod source;
 
 pub use adapters::{StdSink, StdSource};
+pub use file_flash::FileFlash;
 pub use memory_sink::MemSink;
 pub use memory_source::MemSource;
 pub use sink::{Sink, put_all};

@@ -1,6 +1,7 @@
 // What no clause says: that memory suffices, and what passes through the adapters.
-use crate::{MemSink, MemSource, Sink, Source, StdSink, StdSource, put_all};
-use flash_dev::Failed;
+use crate::{FileFlash, MemSink, MemSource, Sink, Source, StdSink, StdSource, put_all};
+use flash_dev::{Failed, FlashDev};
+use std::fs::{self, File};
 use std::io::{self, Error, ErrorKind, Read};
 use std::test::Fail;
 
@@ -57,4 +58,26 @@ fn a_write_of_nothing_is_a_fault(rt: HostRuntime) {
     let mut sink = StdSink::new(full.as_mut_slice());
     assert_eq!(rt; sink.put(b"abc"), Ok(2));
     assert_eq!(rt; sink.put(b"c"), Err(Failed));
+}
+
+#[test]
+fn a_file_is_a_flash(rt: HostRuntime) -> Result<(), Fail> {
+    let name = "a_file_is_a_flash.bin";
+    let mut options = File::options();
+    options.read(true).write(true).create(true).truncate(true);
+    let file = options.open(&rt, name)?;
+    file.set_len(8192)?;
+    let mut flash = FileFlash::new(file)?;
+    assert_eq!(rt; flash.size(), 8192);
+    assert_eq!(rt; flash.erase(1), Ok(()));
+    assert_eq!(rt; flash.program(4096, &[0xF0; 4]), Ok(()));
+    assert_eq!(rt; flash.program(4096, &[0x3C; 4]), Ok(()));
+    let mut held = [1; 12];
+    assert_eq!(rt; flash.read(4092, &mut held), Ok(()));
+    assert_eq!(rt;
+        held,
+        [0, 0, 0, 0, 0x30, 0x30, 0x30, 0x30, 0xFF, 0xFF, 0xFF, 0xFF]
+    );
+    fs::remove_file(&rt, name)?;
+    Ok(())
 }
