@@ -56,7 +56,7 @@ block_range block = record { at = block * block_size; size = block_size }
 abbrev pub blocks_range : ℕ → ℕ → Range
 blocks_range first count = record { at = first * block_size; size = count * block_size }
 
--- whether two ranges have a byte in common
+-- whether two ranges that are not empty have a byte in common
 abbrev pub overlaps : Range → Range → Bool
 overlaps first second = nat_lt first.at (second.at + second.size) && nat_lt second.at (first.at + first.size)
 
