@@ -1,0 +1,4 @@
+pub mod Flashes
+pub mod Events
+pub mod Cores
+pub mod Replies
