@@ -7,6 +7,7 @@ mod erases;
 mod flash;
 mod hash;
 mod i2c;
+mod interrupted;
 mod jumps;
 mod lpc;
 mod packets;
@@ -29,6 +30,10 @@ pub use hash::{
 pub use i2c::{
     hello_on_i2c, last_byte_kept_on_i2c, other_bytes_on_i2c, short_request_on_i2c,
     untaken_accesses_on_i2c,
+};
+pub use interrupted::{
+    cut_inside_a_write_of_three_pieces, cut_inside_the_stored_bits, cut_of_an_access, erase_that_fails,
+    failure_inside_a_write_of_three_pieces, reads_that_fail, torn_range,
 };
 pub use jumps::{
     jump_to_an_erased_image, jumps_of_a_locked_controller, jumps_of_an_open_controller,
