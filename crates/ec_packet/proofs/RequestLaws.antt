@@ -1,9 +1,9 @@
 -- What is read as a request begins with its spelling.
-use Rattle.std.proofs.Common.{◌≡◌, refl, sym, ap, ◌∙◌, subst, ℕ, suc, ◌+◌, ◌-◌, ◌*◌, ◌/◌, ◌%◌, ◌<◌, ◌≤◌, Bool, true, false, not, ◌||◌, ◌==◌, nat_lt, if◌then◌else◌, List, [], ◌∷◌, ◌++◌, length, take, drop, take-append-drop, Result, Ok, Err, arith}
+use Rattle.std.proofs.Common.{◌≡◌, refl, sym, subst, ℕ, suc, ◌+◌, ◌*◌, ◌/◌, ◌%◌, ◌<◌, ◌≤◌, Bool, false, not, ◌||◌, ◌==◌, nat_lt, List, [], ◌∷◌, ◌++◌, length, take, drop, take-append-drop, Result, Ok, Err, arith}
 use Rattle.std.specs.Prelude.{sum}
 use Rattle.std.proofs.lemmas.List.{length-take}
-use Rattle.ec_types.specs.LittleEndian.{AreBytes, u16_bytes, u16_at}
-use Rattle.ec_model.specs.Packet.{RequestView, request_packet, request_fields, framing, sums_to_zero, checksum_of}
+use Rattle.ec_types.specs.LittleEndian.{AreBytes}
+use Rattle.ec_model.specs.Packet.{RequestView, request_packet, framing, checksum_of}
 use Rattle.ec_packet.specs.Read.{view_of}
 use Rattle.ec_packet.proofs.Sums.{only_checksum, passes, equal_of, both_of}
 

@@ -1,8 +1,8 @@
 -- What is a response is spelled as one.
-use Rattle.std.proofs.Common.{◌≡◌, refl, sym, ap, ◌∙◌, subst, ℕ, suc, ◌+◌, ◌-◌, ◌*◌, ◌/◌, ◌%◌, ◌<◌, ◌≤◌, Bool, true, false, not, ◌==◌, nat_lt, if◌then◌else◌, List, [], ◌∷◌, ◌++◌, length, drop, None, arith}
+use Rattle.std.proofs.Common.{◌≡◌, refl, ap, ℕ, ◌+◌, ◌*◌, ◌/◌, ◌%◌, ◌<◌, Bool, true, false, not, ◌==◌, nat_lt, List, [], ◌∷◌, length, drop, None, arith}
 use Rattle.std.specs.Prelude.{sum}
-use Rattle.ec_types.specs.LittleEndian.{AreBytes, u16_bytes, u16_at}
-use Rattle.ec_model.specs.Packet.{response_packet, response_fields, is_response, sums_to_zero, checksum_of}
+use Rattle.ec_types.specs.LittleEndian.{AreBytes, u16_at}
+use Rattle.ec_model.specs.Packet.{response_packet, is_response, checksum_of}
 use Rattle.ec_packet.specs.Read.{reply_fault}
 use Rattle.ec_packet.proofs.Sums.{only_checksum, passes, equal_of}
 
