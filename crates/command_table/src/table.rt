@@ -1,5 +1,6 @@
 // One answer for each request, on a state that it spends.
 ghost use Rattle.ec_types.specs.Tables.{packet_limit};
+ghost use Rattle.ec_model.specs.Handle.{admitted};
 ghost use Rattle.ec_packet.specs.Read.{request_view};
 ghost use Rattle.command_table.specs.After.{run_of, IsAnswered};
 
@@ -31,7 +32,7 @@ pub fn answer<F: FlashDev>(
     bus: BusKind,
     reply: &mut Reply,
 ) -> After<F>
-    ensures { IsAnswered (packet_limit bus) (request_view request.now) reply.new.hurt reply.new.status reply.new.body (run_of state) result }
+    ensures { IsAnswered (packet_limit bus) (λ core. admitted core (request_view request.now)) reply.new.hurt reply.new.status reply.new.body (run_of state) result }
 {
     match state {
         Awake::Ro(mut on) => {

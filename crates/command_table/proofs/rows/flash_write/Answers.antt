@@ -38,9 +38,10 @@ returns-in-None-clause-wear g c =
     let request : List ℕ = c.args.body.now in
     let old : RunView = g.R.Running.run c.args.state.now in
     let n : ℕ = c.size-size.result in
+    let sized : IfSome old.device.held (λ (f : List ℕ). length f ≡ n) = rw c.size-size.ensures.size c.size-size.ensures.whole in
     let may = c.in-None.ensures.allowed refl in
     let is : IsAllowed n c.args.version old request =
         allowed-from n c.args.version old request c.read_u32-at.result c.read_u32-count.result c.requires.spelled c.read_u32-at.ensures c.read_u32-count.ensures
         (λ core body length_is live_is range_is. c.in-None.ensures.refusal core body length_is (rw c.live-live.ensures.live live_is) range_is)
         may.some may.inside (has-bytes old.device.extent old.live.hash old.nonce c.live-live.ensures.valid.hash) in
-    write-wears n c.args.version old request c.read_u32-at.result (g.R.Running.run c.write_pieces.new.state).device.wear is c.size-size.ensures.size c.read_u32-at.ensures (λ count enough. c.write_pieces.ensures.wear count enough)
+    write-wears n c.args.version old request c.read_u32-at.result (g.R.Running.run c.write_pieces.new.state).device.wear is sized c.read_u32-at.ensures (λ count enough. c.write_pieces.ensures.wear count enough)
