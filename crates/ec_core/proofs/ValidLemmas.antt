@@ -1,13 +1,11 @@
 -- A controller's table is valid.
-use Rattle.std.proofs.Common.{◌≡◌, refl, sym, ap, ◌∙◌, subst, ℕ, Bool, true, List, length, Option, Some, None}
+use Rattle.std.proofs.Common.{◌≡◌, ℕ, Bool, List, length, Option, Some, None, refl}
 use Rattle.std.specs.Prelude.{option_map, IfSome}
-use Rattle.flash_dev.specs.Told.{Changes}
 use Rattle.ec_types.specs.declared.bus.BusKind.{BusKind}
 use Rattle.ec_model.specs.declared.event.Hurt.{Hurt}
 use Rattle.ec_model.specs.declared.event.Event.{Event}
 use Rattle.ec_model.specs.declared.event.Entry.TheVariants.{Step}
-use Rattle.ec_model.specs.Ranges.{is_flash_size}
-use Rattle.ec_model.specs.Table.{Table, Valid, off_table}
+use Rattle.ec_model.specs.Table.{Table, Valid}
 use Rattle.ec_model.proofs.ValidEvents.{step-valid}
 use Rattle.ec_core.specs.Held.{EventTold}
 
@@ -17,9 +15,3 @@ valid-told hurt event answer None None valid told = tt
 valid-told hurt event answer None (Some new) valid told = absurd told
 valid-told hurt event answer (Some old) None valid told = absurd told
 valid-told hurt event answer (Some old) (Some new) valid told = step-valid old (Step event answer 0 0 hurt) new valid told
-
--- a controller that is off is valid
-pub off-valid : (pin : Bool) (kind : BusKind) (held : Option (List ℕ)) (extent : ℕ) → is_flash_size extent ≡ true → ((bytes : List ℕ) → held ≡ Some bytes → length bytes ≡ extent) →
-    IfSome (option_map (λ flash. off_table flash pin kind) held) Valid
-off-valid pin kind None extent allowed whole = tt
-off-valid pin kind (Some bytes) extent allowed whole = record { size = rw (whole bytes refl) allowed; power = tt }
