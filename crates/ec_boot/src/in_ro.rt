@@ -13,7 +13,7 @@ use crate::{Off, Running};
 use ec_model::{HashView, Live};
 use ec_types::{ImageCopy, ResetCause, flags_of};
 use flash_ctl::{Ctl, CtlErr};
-use flash_dev::{Failed, FlashDev};
+use flash_dev::{Failed, FlashDev, Geometry};
 use std::marker::Model;
 
 /// A controller that is on and runs its RO image.
@@ -42,8 +42,8 @@ fn read_stored<F: FlashDev>(ctl: &mut Ctl<F>, bytes: &mut [u8]) -> bool
     ensures locks { ctl.new.locks ≡ ctl.old.locks }
     ensures bytes { IsFalse result → IfSome ctl.old.device.held (λ flash. bytes.new ≡ stored_bytes flash) }
 {
-    let size = ctl.size();
-    ctl.read(size / 2 - 4096, bytes).is_err()
+    let half = ctl.geometry().size() / 2;
+    ctl.read(half - 4096, bytes).is_err()
 }
 
 // The locks that a boot sets, in place of all others.
@@ -53,7 +53,7 @@ fn lock<F: FlashDev>(ctl: &mut Ctl<F>, ro: bool, all: bool)
     ensures locks { ctl.new.locks ≡ locks_of ctl.old.device.extent ro all }
 {
     ctl.reset();
-    let size = ctl.size();
+    let size = ctl.geometry().size();
     if all {
         ctl.lock(0, size / 4096);
     } else if ro {
@@ -108,7 +108,8 @@ impl<F: FlashDev> InRo<F> {
             pin: _,
             live: _,
         } = self;
-        Off::new(ctl.into_flash())
+        let geometry = ctl.geometry();
+        Off::new(ctl.into_flash(), geometry)
     }
 }
 
@@ -133,8 +134,8 @@ impl<F: FlashDev> Running for InRo<F> {
         self.pin = on;
     }
 
-    fn size(&self) -> u32 {
-        self.ctl.size()
+    fn geometry(&self) -> Geometry {
+        self.ctl.geometry()
     }
 
     fn read(&mut self, at: u32, out: &mut [u8]) -> Result<(), Failed> {

@@ -7,7 +7,7 @@ ghost use Rattle.ec_boot.specs.States.{RunView, IsLiveValid, IsOperated};
 
 use ec_model::Live;
 use flash_ctl::CtlErr;
-use flash_dev::Failed;
+use flash_dev::{Failed, Geometry};
 
 /// The calls of a controller that is on.
 pub trait Running {
@@ -27,8 +27,8 @@ pub trait Running {
     fn set_pin(&mut self, on: bool)
         ensures { run self.new ≡ record (run self.old) { pin = on } };
 
-    /// How many bytes the flash has.
-    fn size(&self) -> u32
+    /// The size of the flash.
+    fn geometry(&self) -> Geometry
         ensures size { result ≡ (run self.now).device.extent }
         ensures allowed { IsTrue (is_flash_size result) }
         ensures whole { IfSome (run self.now).device.held (λ bytes. length bytes ≡ (run self.now).device.extent) };

@@ -1,4 +1,4 @@
-use Rattle.std.proofs.Common.{◌≡◌, ℕ, List, length, drop, refl, false}
+use Rattle.std.proofs.Common.{◌≡◌, ◌∙◌, ℕ, List, length, drop, refl, false}
 use Rattle.std.specs.Prelude.{IfSome}
 use Rattle.ec_types.specs.LittleEndian.{u32_at}
 use Rattle.ec_model.specs.FlashRows.{write_refusal, write_operations, written}
@@ -13,8 +13,8 @@ returns-in-Some-clause-leaves g c =
     let request : List ℕ = c.args.body.now in
     let old : RunView = g.R.Running.run c.args.state.now in
     refused-told (λ core. write_refusal core c.args.version request) (λ core. done (written (u32_at 0 request) (drop 8 request) core)) (λ core. false) (λ core. write_operations core c.args.version request)
-    old old.device.extent c.in-Some.status c.refuse.new.self.status c.refuse.new.self.hurt c.refuse.new.self.body c.size-size.ensures.whole
-    (λ core length_is live_is. c.in-Some.ensures.refusal core request (rw c.size-size.ensures.size length_is) (rw c.live-live.ensures.live live_is) (asked-is request c.read_u32-at.result c.read_u32-count.result c.read_u32-at.ensures c.read_u32-count.ensures))
+    old old.device.extent c.in-Some.status c.refuse.new.self.status c.refuse.new.self.hurt c.refuse.new.self.body c.geometry.ensures.whole
+    (λ core length_is live_is. c.in-Some.ensures.refusal core request (rw (c.size-size.ensures.size ∙ c.geometry.ensures.size) length_is) (rw c.live-live.ensures.live live_is) (asked-is request c.read_u32-at.result c.read_u32-count.result c.read_u32-at.ensures c.read_u32-count.ensures))
     c.refuse.ensures.hurt c.refuse.ensures.status c.refuse.ensures.body
 
 pub returns-in-None-clause-leaves : goal.returns-in-None-clause-leaves
@@ -23,7 +23,7 @@ returns-in-None-clause-leaves g c =
     let old : RunView = g.R.Running.run c.args.state.now in
     let new : RunView = g.R.Running.run c.write_pieces.new.state in
     let n : ℕ = c.size-size.result in
-    let sized : IfSome old.device.held (λ (f : List ℕ). length f ≡ n) = rw c.size-size.ensures.size c.size-size.ensures.whole in
+    let sized : IfSome old.device.held (λ (f : List ℕ). length f ≡ n) = rw (c.size-size.ensures.size ∙ c.geometry.ensures.size) c.geometry.ensures.whole in
     let may = c.in-None.ensures.allowed refl in
     let is : IsAllowed n c.args.version old request =
         allowed-from n c.args.version old request c.read_u32-at.result c.read_u32-count.result c.requires.spelled c.read_u32-at.ensures c.read_u32-count.ensures
@@ -38,7 +38,7 @@ returns-in-None-clause-wear g c =
     let request : List ℕ = c.args.body.now in
     let old : RunView = g.R.Running.run c.args.state.now in
     let n : ℕ = c.size-size.result in
-    let sized : IfSome old.device.held (λ (f : List ℕ). length f ≡ n) = rw c.size-size.ensures.size c.size-size.ensures.whole in
+    let sized : IfSome old.device.held (λ (f : List ℕ). length f ≡ n) = rw (c.size-size.ensures.size ∙ c.geometry.ensures.size) c.geometry.ensures.whole in
     let may = c.in-None.ensures.allowed refl in
     let is : IsAllowed n c.args.version old request =
         allowed-from n c.args.version old request c.read_u32-at.result c.read_u32-count.result c.requires.spelled c.read_u32-at.ensures c.read_u32-count.ensures
