@@ -13,7 +13,9 @@ mod lpc;
 mod packets;
 mod protection;
 mod questions;
+mod sends;
 mod spi;
+mod tries;
 
 pub use checks::{
     bodies_of_another_length, checks_in_their_order, commands_while_an_erase_is_pending,
@@ -52,4 +54,12 @@ pub use questions::{
     fixed_answers, pending_erase_is_shown, regions, tests_of_the_protocol, versions_of_commands,
     versions_of_the_images,
 };
+pub use sends::{
+    changed_byte_over_lpc, changed_byte_over_spi, hello_over_i2c, hello_over_lpc, hello_over_spi, more_than_one_changed_byte,
+    reset_over_i2c, reset_over_lpc, reset_over_spi,
+};
 pub use spi::{deselected_spi, hello_on_spi, too_long_on_spi};
+pub use tries::{
+    command_that_is_answered_at_once, commands_that_are_not_sent, erase_behind_another, poll_until_no_erase_is_pending,
+    replies_of_a_wanted_length, statuses_that_say_nothing, three_tries_that_say_nothing,
+};
