@@ -6,3 +6,4 @@ pub mod Entries
 pub mod Waiting
 pub mod Sends
 pub mod Tries
+pub mod I2cExchanges
