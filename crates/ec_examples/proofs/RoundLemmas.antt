@@ -1,10 +1,9 @@
 -- A round on I2C that ends behind its first command.
-use Rattle.std.proofs.Common.{◌≡◌, refl, sym, subst, ℕ, ◌+◌, true, List, [], ◌∷◌, ◌++◌, take, replicate}
+use Rattle.std.proofs.Common.{◌≡◌, refl, sym, subst, ℕ, true, List, [], ◌∷◌, ◌++◌, take}
 use Rattle.ec_types.specs.declared.bus.BusKind.TheVariants.{I2c}
-use Rattle.ec_model.specs.declared.event.Entry.{Entry}
-use Rattle.ec_model.specs.HostCalls.{HostCall, HostView, calls_of, view_after}
+use Rattle.ec_model.specs.HostCalls.{HostView, calls_of, view_after}
 use Rattle.ec_model.specs.Send.{Heard, Reply, Send, I2cSend, I2cWasUnstarted, I2cWasUnwritten, I2cWasUnread, I2cWasServed}
-use Rattle.ec_model.specs.Tries.{Setting, Tries, Status, Answered, Final, packet_of, Unsent, unsent, IsSent, AsksBy}
+use Rattle.ec_model.specs.Tries.{Tries, Status, Answered, Final, packet_of, Unsent, unsent, IsSent, AsksBy}
 use Rattle.ec_model.specs.Rounds.{AsksNoProtocol, IsRound, protocol_request as protocol_asked}
 use Rattle.ec_examples.specs.I2cExchanges.{stopped, i2c_exchange, protocol_request, protocol_response, short_round}
 
@@ -29,16 +28,16 @@ none-asked (entry ∷ before) asking after heard parts sent = cc
 -- the exchange is a send
 protocol-sent : Send I2c (i2c_exchange protocol_request protocol_response) protocol_request (Reply protocol_response)
 protocol-sent = I2cWasServed (record {
-      first = take 10 (calls_of (i2c_exchange protocol_request protocol_response));
-      outcome = 0;
-      size = 20;
-      bytes = protocol_response;
-      stopped = 0;
-      asked = record { made = refl };
-      whole = refl;
-      made = refl;
-      heard_is = refl;
-    })
+  first = take 10 (calls_of (i2c_exchange protocol_request protocol_response));
+  outcome = 0;
+  size = 20;
+  bytes = protocol_response;
+  stopped = 0;
+  asked = record { made = refl };
+  whole = refl;
+  made = refl;
+  heard_is = refl;
+})
 
 -- what GET_PROTOCOL_INFO is answered
 abbrev pub told : List ℕ

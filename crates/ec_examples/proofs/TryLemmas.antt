@@ -1,13 +1,12 @@
 -- Asks and turns on LPC, each an exchange.
-use Rattle.std.proofs.Common.{◌≡◌, refl, sym, subst, ℕ, true, false, List, [], ◌∷◌, ◌++◌, length, slice_index}
+use Rattle.std.proofs.Common.{◌≡◌, refl, sym, subst, ℕ, true, List, [], ◌∷◌, slice_index}
 use Rattle.ec_types.specs.declared.bus.BusKind.TheVariants.{Lpc}
-use Rattle.ec_model.specs.declared.event.Entry.{Entry}
 use Rattle.ec_model.specs.Packet.{RequestView}
-use Rattle.ec_model.specs.HostCalls.{HostView, calls_of, Waited, view_after}
+use Rattle.ec_model.specs.HostCalls.{HostView, view_after}
 use Rattle.ec_model.specs.Send.{Reply, is_all_read, reads_on, heard_if, heard_with}
-use Rattle.ec_model.specs.Tries.{Got, got, SendsOnce, packet_of, TakesTurn, Turn, turn_of, Status, comms_request as comms_asked, Pending, Ends, Idle, IsSent, Unsent, unsent, AsksBy, Polls}
+use Rattle.ec_model.specs.Tries.{got, SendsOnce, packet_of, TakesTurn, turn_of, comms_request as comms_asked, IsSent, Unsent, unsent, AsksBy}
 use Rattle.ec_examples.specs.Entries.{lpc_exchange, waited}
-use Rattle.ec_examples.specs.Tries.{comms_request, pending, none_pending, turn, on_lpc}
+use Rattle.ec_examples.specs.Tries.{comms_request, turn, on_lpc}
 use Rattle.ec_examples.proofs.Exchanges.{lpc_exchange-sent}
 
 -- a response that is heard whole

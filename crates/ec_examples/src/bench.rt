@@ -9,7 +9,7 @@ ghost use Rattle.ec_model.specs.declared.event.Entry.TheVariants.{Step};
 ghost use Rattle.ec_model.specs.declared.event.Hurt.TheVariants.{Whole, Cut};
 ghost use Rattle.ec_model.specs.Table.{off_table};
 ghost use Rattle.ec_model.specs.Step.{stepped};
-ghost use Rattle.ec_model.specs.Played.{Played, Accesses, Waits, due_events, still_armed, byte_among, cut_after};
+ghost use Rattle.ec_model.specs.Played.{Played, Accesses, Waits, due_events, still_armed, byte_among};
 ghost use Rattle.ec_examples.specs.Flashes.{e64};
 ghost use Rattle.ec_examples.specs.Events.{powered, table_after};
 ghost use Rattle.ec_examples.specs.Waiting.{write_waits, torn_in_the_second};
@@ -27,12 +27,19 @@ pub fn armed_events_that_are_due()
 /// A write of 0x11 to port 0x800 before which the pin goes off, and whose byte arrives as 0x77: two entries, and a reset is
 /// still armed for the next call.
 pub fn two_events_and_a_changed_byte()
-    ensures { Played ⊥ (record { table = powered e64 Lpc; cut = None; armed =
-        record { left = 1; event = Pin false } ∷ record { left = 2; event = Reset ByPin } ∷ record { left = 1; event = Byte 0x77 } ∷ [] })
+    ensures { Played ⊥ (record {
+      table = powered e64 Lpc;
+      cut = None;
+      armed =
+          record { left = 1; event = Pin false } ∷ record { left = 2; event = Reset ByPin } ∷ record { left = 1; event = Byte 0x77 } ∷ [];
+    })
         (Accesses (PortOut 0x800 0x11))
         (Step (PinEvent false) 0 0 0 Whole ∷ Step (Access (PortOut 0x800 0x77)) 0 0x11 0 Whole ∷ [])
-        (record { table = table_after (powered e64 Lpc) (PinEvent false ∷ Access (PortOut 0x800 0x77) ∷ []); cut = None;
-        armed = record { left = 1; event = Reset ByPin } ∷ [] }) }
+        (record {
+          table = table_after (powered e64 Lpc) (PinEvent false ∷ Access (PortOut 0x800 0x77) ∷ []);
+          cut = None;
+          armed = record { left = 1; event = Reset ByPin } ∷ [];
+        }) }
 {}
 
 /// A read of the status port whose byte is seen as 0xFF: the controller answered 0.

@@ -1,5 +1,5 @@
 // The rounds of a sync, on I2C.
-ghost use Rattle.std.specs.Prelude.{◌≡◌, true, false, [], ◌∷◌, ◌++◌};
+ghost use Rattle.std.specs.Prelude.{true, false, [], ◌∷◌, ◌++◌};
 ghost use Rattle.ec_types.specs.declared.bus.BusKind.TheVariants.{I2c};
 ghost use Rattle.ec_model.specs.Rounds.{Rounds, IsShown, protocol_request};
 ghost use Rattle.ec_examples.specs.I2cExchanges.{stopped, short_round};

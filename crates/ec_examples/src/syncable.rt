@@ -1,11 +1,10 @@
 // From which states a sync has to succeed.
-ghost use Rattle.std.specs.Prelude.{◌≡◌, ℕ, List, true, false, [], ◌∷◌, Some};
+ghost use Rattle.std.specs.Prelude.{◌≡◌, true, false, [], ◌∷◌, Some, ◌++◌, replicate};
 ghost use Rattle.ec_types.specs.declared.bus.BusKind.TheVariants.{Lpc, I2c, Spi};
 ghost use Rattle.ec_types.specs.declared.reset.ResetCause.TheVariants.{PowerOn};
 ghost use Rattle.ec_types.specs.declared.image.Fit.TheVariants.{Yes, Short, Long, Vector};
 ghost use Rattle.ec_model.specs.declared.event.Access.TheVariants.{SpiSelect};
 ghost use Rattle.ec_model.specs.declared.event.Event.TheVariants.{Access};
-ghost use Rattle.std.specs.Prelude.{◌++◌, replicate};
 ghost use Rattle.ec_model.specs.Bus.{fresh_bus};
 ghost use Rattle.ec_model.specs.Table.{table_of, off_table};
 ghost use Rattle.ec_model.specs.Boot.{booted_table};

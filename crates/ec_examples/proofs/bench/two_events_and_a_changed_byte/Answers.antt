@@ -1,4 +1,4 @@
-use Rattle.std.proofs.Common.{◌≡◌, refl, ℕ, true, false, List, [], ◌∷◌, ◌++◌, replicate, Some, None, inl, inr, arith}
+use Rattle.std.proofs.Common.{refl, false, [], ◌∷◌, None}
 use Rattle.ec_types.specs.declared.bus.BusKind.TheVariants.{Lpc}
 use Rattle.ec_model.specs.declared.event.Access.TheVariants.{PortOut}
 use Rattle.ec_model.specs.declared.event.WorldReset.TheVariants.{Pin as ByPin}
@@ -18,10 +18,10 @@ between = record { table = table_after (powered e64 Lpc) (PinEvent false ∷ [])
 pub returns : goal.returns
 unfolding between
 returns c = record {
-    world = Step (PinEvent false) 0 0 0 Whole ∷ [];
-    own = Step (Access (PortOut 0x800 0x77)) 0 0x11 0 Whole;
-    middle = between;
-    parts = refl;
-    events = (between, refl, refl, refl, record { begun = 0; step = refl; is_begun = refl; falls = tt; cut_is = refl; armed_is = refl }, refl);
-    call_is = (refl, refl, refl, record { begun = 0; step = refl; is_begun = refl; falls = tt; cut_is = refl; armed_is = refl });
-  }
+  world = Step (PinEvent false) 0 0 0 Whole ∷ [];
+  own = Step (Access (PortOut 0x800 0x77)) 0 0x11 0 Whole;
+  middle = between;
+  parts = refl;
+  events = (between, refl, refl, refl, record { begun = 0; step = refl; is_begun = refl; falls = tt; cut_is = refl; armed_is = refl }, refl);
+  call_is = (refl, refl, refl, record { begun = 0; step = refl; is_begun = refl; falls = tt; cut_is = refl; armed_is = refl });
+}

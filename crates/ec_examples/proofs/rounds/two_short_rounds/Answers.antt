@@ -1,4 +1,4 @@
-use Rattle.std.proofs.Common.{refl, ℕ, true, false, List, [], ◌∷◌, ◌++◌, arith}
+use Rattle.std.proofs.Common.{refl, arith}
 use Rattle.ec_examples.proofs.RoundLemmas.{short-round}
 use Rattle.ec_examples.proofs.rounds.two_short_rounds.Goals as goal
 

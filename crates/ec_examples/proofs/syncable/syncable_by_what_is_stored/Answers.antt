@@ -1,10 +1,9 @@
-use Rattle.std.proofs.Common.{◌≡◌, refl, ℕ, true, false, List, [], ◌∷◌, ◌++◌, replicate, Some, None, inl, inr, arith}
-use Rattle.std.proofs.Common.{ap, slice_index}
+use Rattle.std.proofs.Common.{◌≡◌, refl, ℕ, List, inr, arith, ap, slice_index}
 use Rattle.ec_types.specs.declared.bus.BusKind.TheVariants.{Lpc}
 use Rattle.ec_model.specs.Syncable.{settled, HoldsImage}
 use Rattle.ec_examples.specs.Flashes.{a64, image_v2}
 use Rattle.ec_examples.specs.Events.{powered}
-use Rattle.ec_examples.proofs.SyncLemmas.{apart, closed}
+use Rattle.ec_examples.proofs.SyncLemmas.{closed}
 use Rattle.ec_examples.proofs.syncable.syncable_by_what_is_stored.Goals as goal
 
 -- a byte that is erased is not 0

@@ -1,4 +1,4 @@
-use Rattle.std.proofs.Common.{refl, ℕ, true, false, List, [], ◌∷◌, ◌++◌}
+use Rattle.std.proofs.Common.{refl, [], ◌++◌}
 use Rattle.ec_model.specs.HostCalls.{view_after}
 use Rattle.ec_model.specs.Tries.{Pending, Ends, Idle, Status, Answered, Final, AskedThen, resend_request as resend_asked}
 use Rattle.ec_examples.specs.Tries.{turn, pending, none_pending, with_room, erase_request, resend_request, erase_asked, erase_poll, busy, in_progress, success}
@@ -7,7 +7,12 @@ use Rattle.ec_examples.proofs.TryLemmas.{asks, turn-taken}
 use Rattle.ec_examples.proofs.tries.erase_behind_another.Goals as goal
 
 pub returns : goal.returns
-returns c = ((lpc_exchange erase_request busy ++ (turn none_pending ++ lpc_exchange erase_request in_progress)) ++ (erase_poll ++ lpc_exchange resend_request success), [], Final (Answered 0 []), refl, record {
+returns c = (
+  (lpc_exchange erase_request busy ++ (turn none_pending ++ lpc_exchange erase_request in_progress)) ++ (erase_poll ++ lpc_exchange resend_request success),
+  [],
+  Final (Answered 0 []),
+  refl,
+  record {
     first = lpc_exchange erase_request busy ++ (turn none_pending ++ lpc_exchange erase_request in_progress);
     rest = erase_poll ++ lpc_exchange resend_request success;
     told = Status 8 [];
@@ -35,4 +40,6 @@ returns c = ((lpc_exchange erase_request busy ++ (turn none_pending ++ lpc_excha
       asked = asks resend_asked 0 success (record { whole = refl; heard = refl });
     });
     end_is = refl;
-  }, (refl, refl))
+  },
+  (refl, refl),
+)
