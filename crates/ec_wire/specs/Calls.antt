@@ -1,37 +1,85 @@
--- What the calls of a wire add to its entries, and do to its table.
-use Rattle.std.specs.Prelude.{◌≡◌, ℕ, ◌+◌, Bool, IsTrue, List, [], ◌∷◌, ◌++◌, length, Option}
-use Rattle.std.specs.List.{list_all}
+-- What a wire shows, and what its calls add to its entries and do to the rest.
+use Rattle.std.specs.Prelude.{◌≡◌, ℕ, ◌+◌, ◌≤◌, min, Bool, true, false, ◌&&◌, ◌==◌, IsTrue, IsFalse, List, [], ◌∷◌, ◌++◌, length, count_by, Option, IfSome}
+use Rattle.std.specs.List.{list_all, list_any}
+use Rattle.flash_dev.specs.Counts.{last_count}
 use Rattle.flash_dev.specs.Told.{Changes}
 use Rattle.ec_types.specs.declared.bus.BusKind.{BusKind}
 use Rattle.ec_model.specs.declared.event.Access.{Access}
 use Rattle.ec_model.specs.HostCalls.{HostCall, with_byte, calls_of, on_after}
 use Rattle.ec_model.specs.declared.event.Event.TheVariants.{Access as AccessEvent, Tick}
 use Rattle.ec_model.specs.declared.event.Entry.{Entry}
-use Rattle.ec_model.specs.declared.event.Entry.TheVariants.{Step}
+use Rattle.ec_model.specs.declared.event.Entry.TheVariants.{Step, Mark}
 use Rattle.ec_model.specs.declared.event.Hurt.{Hurt}
+use Rattle.ec_model.specs.declared.event.Hurt.TheVariants.{Failed}
 use Rattle.ec_model.specs.Table.{Table, Valid, is_on}
 use Rattle.ec_model.specs.Run.{IsRun}
-use Rattle.ec_model.specs.Upset.{access_byte, is_world}
+use Rattle.ec_model.specs.Upset.{access_byte, is_world, is_changed, is_cut_entry}
 
--- a wire: what happened so far, for how many entries there is room, whether the controller is on, which bus it is, and
--- the controller's state where the flash tells its bytes
+-- a wire: what happened so far, for how many entries there is room, whether the controller is on, which bus it is, whether
+-- an event or a changed byte of the world is armed, what the flash counted of faults and of cuts, and the controller's
+-- state where the flash tells its bytes
 pub record WireView : Type 0 where
   pub entries : List Entry
   pub spare : ℕ
   pub on : Bool
   pub bus : BusKind
+  pub armed : Bool
+  pub faults : ℕ
+  pub cuts : ℕ
   pub table : Option Table
+
+-- a table that is told agrees with what is always told
+pub record Agrees (kind : BusKind) (on : Bool) (table : Table) : Type 0 where
+  pub valid : Valid table
+  pub kind_is : table.kind ≡ kind
+  pub on_is : is_on table.power ≡ on
+
+-- what a wire shows agrees with the table, where that is told
+abbrev pub IsAgreed : WireView → Type 0
+IsAgreed view = IfSome view.table (Agrees view.bus view.on)
+
+-- the same with another room
+abbrev pub with_spare : ℕ → WireView → WireView
+with_spare spare view = record view { spare = spare }
 
 -- the tables, where they are told, are joined by a run along the entries
 abbrev pub RunsAlong : List Entry → Option Table → Option Table → Type 0
 RunsAlong entries before after = Changes (λ old new. IsRun old entries new) before after
 
--- these entries were added: each call among them took one off the room, and the tables are joined by a run
+-- whether a flash call failed in the entry
+abbrev pub is_failed_entry : Entry → Bool
+is_failed_entry (Step event answer meant seen Failed) = true
+is_failed_entry other = false
+
+-- whether an entry is one that a call of a wire adds: a step, all of whose bytes are 0 where its event is no access
+abbrev pub is_wire_step : Entry → Bool
+is_wire_step (Step (AccessEvent access) answer meant seen hurt) = true
+is_wire_step (Step other answer meant seen hurt) = (answer == 0) && (meant == 0) && (seen == 0)
+is_wire_step (Mark line) = false
+
+-- nothing of the world is armed behind the entries, and none of them is of it
+pub record KeepsQuiet (added : List Entry) (armed : Bool) : Type 0 where
+  pub disarmed : IsFalse armed
+  pub no_event : IsFalse (list_any is_world added)
+  pub no_byte : IsFalse (list_any is_changed added)
+
+-- a count never fell, and rose by at least so much, up to its last value
+pub record RoseBy (amount before now : ℕ) : Type 0 where
+  pub later : before ≤ now
+  pub risen : min (before + amount) last_count ≤ now
+
+-- Calls added these entries. Each call took one off the room. Where nothing of the world was armed, nothing of it came.
+-- Each failed entry raised the count of faults, and each cut entry that of cuts, which an armed cut that falls raises, too.
+-- The tables are joined by a run.
 pub record Grows (added : List Entry) (old new : WireView) : Type 0 where
   pub entries : new.entries ≡ old.entries ++ added
   pub room : new.spare + length (calls_of added) ≡ old.spare
   pub on : new.on ≡ on_after added old.on
   pub bus : new.bus ≡ old.bus
+  pub steps : IsTrue (list_all is_wire_step added)
+  pub quiet : IsFalse old.armed → KeepsQuiet added new.armed
+  pub faults : RoseBy (count_by is_failed_entry added) old.faults new.faults
+  pub cuts : RoseBy (count_by is_cut_entry added) old.cuts new.cuts
   pub run : RunsAlong added old.table new.table
 
 -- an access added the world's events that were due, and then its own entry
@@ -55,9 +103,3 @@ pub record Made (calls : List HostCall) (old new : WireView) : Type 0 where
   pub added : List Entry
   pub grows : Grows added old new
   pub calls_are : calls_of added ≡ calls
-
--- a table that is told agrees with what is always told
-pub record Agrees (kind : BusKind) (on : Bool) (table : Table) : Type 0 where
-  pub valid : Valid table
-  pub kind_is : table.kind ≡ kind
-  pub on_is : is_on table.power ≡ on

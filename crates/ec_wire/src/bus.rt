@@ -18,6 +18,7 @@ pub enum Due {
     Now,
 }
 
+/// The controller's machine on a bus.
 pub trait Bus {
     /// The state that the machine stands for.
     ghost state: { Self → BusState };
@@ -25,25 +26,31 @@ pub trait Bus {
     /// Which bus it is.
     ghost bus: { BusKind };
 
+    /// The state behind a reset.
     fn fresh() -> Self
         ensures { state result ≡ fresh_bus bus };
 
+    /// Which bus it is.
     fn kind(&self) -> BusKind
         ensures { result ≡ bus };
 
+    /// One access of the host. Gives the byte that it is answered with.
     fn access(&mut self, a: Access) -> u8
         requires { IsNone (due_now (state self.old)) }
         ensures state { state self.new ≡ (bus_step (state self.old) a).state }
         ensures answer { result ≡ (bus_step (state self.old) a).answer };
 
+    /// Whether a request waits to be served, and for what.
     fn due(&self) -> Due
         ensures { result ≡ due_of (state self.now) };
 
+    /// The request that waits.
     fn asked(&self) -> &[u8]
         requires { IsSome (asked_of (state self.now)) }
         ensures asked { asked_of (state self.now) ≡ Some result.now }
         ensures short { length result.now ≤ 544 };
 
+    /// Takes the response to the request that waits.
     fn reply(&mut self, packet: &Packet)
         requires due { IsSome (asked_of (state self.old)) }
         requires response { IsTrue (is_response packet.now) }

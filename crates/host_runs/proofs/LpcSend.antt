@@ -24,7 +24,8 @@ use Rattle.ec_model.proofs.ShortRows.{IsShort}
 use Rattle.ec_model.proofs.ValidStep.{row_of-short}
 use Rattle.ec_model.proofs.ValidEvents.{step-valid}
 use Rattle.host_runs.specs.Calm.{CallsLead}
-use Rattle.host_runs.specs.Served.{IsAnswer, IsPlain, Serves, Settles}
+use Rattle.host_runs.specs.Served.{IsPlain, IsAnswer, Serves, Settles}
+use Rattle.host_runs.proofs.Plain.{plain-answered}
 use Rattle.host_runs.proofs.Framed.{framing-append}
 use Rattle.host_runs.proofs.Response.{length-response, read-whole, heard-response}
 use Rattle.host_runs.proofs.LpcLead.{lpc, reads-lead, writes-lead, command-lead, tick-lead, ready-lead}
@@ -57,7 +58,7 @@ idle-lead : (core : Core) (window : List ℕ) (status outcome : ℕ) (statuses :
 idle-lead core window status outcome [] ready calls new idle other polled lead = absurd (cc)
 idle-lead core window status outcome (byte ∷ bytes) ready calls new idle other polled lead =
     let end = ready-lead core window status outcome 4 byte bytes ready calls new idle polled lead in
-    record { core = core; window = window; status = status; outcome = outcome; same = settled-idle core window status outcome other; idle = idle; ended = end.0; lead = end.1 }
+    record { core = core; window = window; status = status; outcome = outcome; same = settled-idle core window status outcome other; idle = idle; ended = end.ended; lead = end.lead }
 
 -- a request waits, and the first wait has it handled
 served-lead : (core : Core) (window : List ℕ) (outcome next : ℕ) (bytes : List ℕ) (ready : Bool) (calls : List HostCall) (new : Table) (result : Outcome) → handled core 256 window ≡ result → poll_end is_busy 4 (next ∷ bytes) ≡ Some ready →
@@ -66,12 +67,12 @@ served-lead core window outcome next bytes ready calls new (Answered after statu
     let reply = response_packet status body in
     let moved = tick-lead core window outcome (Answered after status body) (Did status_in next ∷ (waited_reads status_in bytes ++ calls)) new same lead in
     let end = ready-lead after (overwritten 0 reply window) 0x01 (low_status reply) 3 next bytes ready calls new refl polled moved in
-    record { core = after; window = overwritten 0 reply window; status = 0x01; outcome = low_status reply; same = settled-served core window outcome _ same; idle = refl; ended = end.0; lead = end.1 }
+    record { core = after; window = overwritten 0 reply window; status = 0x01; outcome = low_status reply; same = settled-served core window outcome _ same; idle = refl; ended = end.ended; lead = end.lead }
 served-lead core window outcome next bytes ready calls new Restarts same polled lead =
     let fresh = booted core.flash core.pin Cold false in
     let moved = tick-lead core window outcome Restarts (Did status_in next ∷ (waited_reads status_in bytes ++ calls)) new same lead in
     let end = ready-lead fresh (replicate 256 0) 0 0 3 next bytes ready calls new refl polled moved in
-    record { core = fresh; window = replicate 256 0; status = 0; outcome = 0; same = settled-served core window outcome _ same; idle = refl; ended = end.0; lead = end.1 }
+    record { core = fresh; window = replicate 256 0; status = 0; outcome = 0; same = settled-served core window outcome _ same; idle = refl; ended = end.ended; lead = end.lead }
 
 busy-lead : (core : Core) (window : List ℕ) (outcome : ℕ) (statuses : List ℕ) (ready : Bool) (calls : List HostCall) (new : Table) → poll_end is_busy 5 statuses ≡ Some ready →
     CallsLead (table_of core (lpc window 0x06 outcome)) (spaced_reads status_in statuses ++ calls) new → Idled (settled (table_of core (lpc window 0x06 outcome))) ready calls new
@@ -113,13 +114,20 @@ settled-by-valid : (table : Table) (waits : Bool) → Valid table → Valid (if 
 settled-by-valid table true valid = step-valid table (Step Tick (stepped table Tick).answer 0 0 Whole) (stepped table Tick).table valid (whole-leaves table Tick table.power)
 settled-by-valid table false valid = valid
 
+-- the poll behind a request saw its response at once
+record IsServed (table : Table) (statuses : List ℕ) (ready : Bool) (calls : List HostCall) (new : Table) : Type 0 where
+  pub once : statuses ≡ 0x01 ∷ []
+  pub ended : ready ≡ true
+  pub lead : CallsLead table calls new
+
 -- the request is served by the first wait, and the poll behind it ends at once
 serve-lead : (core after : Core) (window : List ℕ) (outcome status : ℕ) (body statuses : List ℕ) (ready : Bool) (calls : List HostCall) (new : Table) → handled core 256 window ≡ Answered after status body → poll_end is_busy 4 statuses ≡ Some ready →
     CallsLead (table_of core (lpc window 0x06 outcome)) (waited_reads status_in statuses ++ calls) new →
-    (ready ≡ true) × CallsLead (table_of after (lpc (overwritten 0 (response_packet status body) window) 0x01 (low_status (response_packet status body)))) calls new
+    IsServed (table_of after (lpc (overwritten 0 (response_packet status body) window) 0x01 (low_status (response_packet status body)))) statuses ready calls new
 serve-lead core after window outcome status body [] ready calls new same polled lead = absurd (cc)
 serve-lead core after window outcome status body (next ∷ bytes) ready calls new same polled lead =
-    ready-lead after _ 0x01 _ 3 next bytes ready calls new refl polled (tick-lead core window outcome (Answered after status body) (Did status_in next ∷ (waited_reads status_in bytes ++ calls)) new same lead)
+    let end = ready-lead after _ 0x01 _ 3 next bytes ready calls new refl polled (tick-lead core window outcome (Answered after status body) (Did status_in next ∷ (waited_reads status_in bytes ++ calls)) new same lead) in
+    record { once = ap (λ (byte : ℕ). byte ∷ bytes) end.shown ∙ ap (λ (others : List ℕ). 0x01 ∷ others) end.none; ended = end.ended; lead = end.lead }
 
 -- at most the window is read
 read-short : (on : Bool) (bytes : List ℕ) → on ≡ nat_le (response_length bytes) 248 → is_all_read on bytes ≡ true → length bytes ≤ 256
@@ -130,19 +138,26 @@ read-short false bytes on all = header (length bytes) all where
   header : (size : ℕ) → (nat_le 8 size && (size == 8)) ≡ true → size ≤ 256
   header size both = grind (arith, leb_tells, eqb_tells)
 
--- the host reads the reply from the window
-hear-lead : (after : Core) (window : List ℕ) (status outcome : ℕ) (body rest bytes : List ℕ) (heard : Heard) (new : Table) → length window ≡ 256 → window ≡ response_packet status body ++ rest → length body ≤ 248 → is_all_read (reads_on 248 bytes) bytes ≡ true →
+-- the response was read from the window, and heard
+pub record IsHeard (after : Core) (window reply : List ℕ) (outcome : ℕ) (bytes : List ℕ) (heard : Heard) (new : Table) : Type 0 where
+  pub outcome_is : outcome ≡ low_status reply
+  pub bytes_are : bytes ≡ reply
+  pub heard_is : heard ≡ Reply reply
+  pub leaves : new ≡ table_of after (lpc window 0 (low_status reply))
+
+-- the host reads the response from the window
+pub hear-lead : (after : Core) (window : List ℕ) (status outcome : ℕ) (body rest bytes : List ℕ) (heard : Heard) (new : Table) → length window ≡ 256 → window ≡ response_packet status body ++ rest → length body ≤ 248 → is_all_read (reads_on 248 bytes) bytes ≡ true →
     heard ≡ heard_if (reads_on 248 bytes) (heard_with outcome bytes) → CallsLead (table_of after (lpc window 0x01 (low_status (response_packet status body)))) (Did (PortIn 0x200) outcome ∷ port_reads 0x800 bytes) new →
-    (heard ≡ Reply (response_packet status body)) × (new ≡ table_of after (lpc window 0 (low_status (response_packet status body))))
+    IsHeard after window (response_packet status body) outcome bytes heard new
 hear-lead after window status outcome body rest bytes heard new size front short all heard_is lead =
     let reply = response_packet status body in
     let padded = subst (λ (calls : List HostCall). CallsLead (table_of after (lpc window 0 (low_status reply))) calls new) (sym (append-nil (port_reads 0x800 bytes))) lead.1 in
     let read = reads-lead after (record { window = window; status = 0; outcome = low_status reply }) 0x800 0 bytes [] new refl (omega (arith, read-short (reads_on 248 bytes) bytes refl all)) size padded in
     let whole = read-whole 0 status body rest bytes short (read.0 ∙ ap (λ (xs : List ℕ). take (length bytes) xs) front) all in
     let judged : heard_with outcome bytes ≡ Reply reply = ap (λ (n : ℕ). heard_with n bytes) lead.0 ∙ ap (λ (xs : List ℕ). heard_with (low_status reply) xs) whole.0 ∙ heard-response status body (omega (arith, short)) in
-    (heard_is ∙ ap (λ (on : Bool). heard_if on (heard_with outcome bytes)) whole.1 ∙ judged, read.1)
+    record { outcome_is = lead.0; bytes_are = whole.0; heard_is = heard_is ∙ ap (λ (on : Bool). heard_if on (heard_with outcome bytes)) whole.1 ∙ judged; leaves = read.1 }
 
-regroup : (a b c d : List HostCall) (x : HostCall) → a ++ b ++ x ∷ [] ++ c ++ d ≡ a ++ (b ++ (x ∷ (c ++ d)))
+pub regroup : (a b c d : List HostCall) (x : HostCall) → a ++ b ++ x ∷ [] ++ c ++ d ≡ a ++ (b ++ (x ∷ (c ++ d)))
 regroup a b c d x = simp append_assoc
 
 regroup3 : (a b c : List HostCall) (x : HostCall) → a ++ b ++ x ∷ [] ++ c ≡ a ++ (b ++ (x ∷ (c ++ [])))
@@ -160,19 +175,26 @@ window-whole core window status outcome valid = valid.power.bus.0
 abbrev pub served_calls : List ℕ → List ℕ → ℕ → List ℕ → List HostCall → List HostCall
 served_calls packet gots got statuses tail = port_writes 0x800 packet gots ++ (Did (PortOut 0x204 0xDA) got ∷ (waited_reads status_in statuses ++ tail))
 
--- from a bus that is not busy: the request is written, served, and the poll behind it ends
-record Asked (core : Core) (packet : List ℕ) (ready : Bool) (tail : List HostCall) (new : Table) : Type 0 where
+-- from a bus that is not busy: the request is written, served in one wait, and its response stands in the window
+pub record Answers (after : Core) (result : ℕ) (body packet gots : List ℕ) (got : ℕ) (statuses : List ℕ) (ready : Bool) (tail : List HostCall) (new : Table) : Type 0 where
+  pub rest : List ℕ
+  pub window : List ℕ
+  pub front : window ≡ response_packet result body ++ rest
+  pub size : length window ≡ 256
+  pub zeros : gots ≡ replicate (length packet) 0
+  pub taken : got ≡ 0
+  pub once : statuses ≡ 0x01 ∷ []
+  pub ended : ready ≡ true
+  pub lead : CallsLead (table_of after (lpc window 0x01 (low_status (response_packet result body)))) tail new
+
+-- the same, with what the request is answered
+record Asked (core : Core) (packet gots : List ℕ) (got : ℕ) (statuses : List ℕ) (ready : Bool) (tail : List HostCall) (new : Table) : Type 0 where
   pub after : Core
   pub status : ℕ
   pub body : List ℕ
-  pub rest : List ℕ
-  pub window : List ℕ
   pub handled_is : handled core 256 packet ≡ Answered after status body
   pub short : length body ≤ 248
-  pub front : window ≡ response_packet status body ++ rest
-  pub size : length window ≡ 256
-  pub ended : ready ≡ true
-  pub lead : CallsLead (table_of after (lpc window 0x01 (low_status (response_packet status body)))) tail new
+  pub answers : Answers after status body packet gots got statuses ready tail new
 
 overwritten-size : (bytes window : List ℕ) → length window ≡ 256 → length bytes ≤ 256 → length (overwritten 0 bytes window) ≡ 256
 overwritten-size bytes window size short = omega (arith, length-append bytes (drop (0 + length bytes) window), length-drop (0 + length bytes) window, size, short)
@@ -180,36 +202,47 @@ overwritten-size bytes window size short = omega (arith, length-append bytes (dr
 handled-window : (core : Core) (packet window : List ℕ) → IsPlain packet → handled core 256 (overwritten 0 packet window) ≡ handled core 256 packet
 handled-window core packet window plain = ap (λ (f : _). row_of core 256 (admitted_from core f)) (framing-append packet (drop (0 + length packet) window) plain.header plain.whole)
 
-asked-by : (core : Core) (window : List ℕ) (status outcome : ℕ) (packet gots : List ℕ) (got : ℕ) (statuses : List ℕ) (ready : Bool) (tail : List HostCall) (new : Table) (result : Outcome) →
-    IsCoreValid core → length window ≡ 256 → is_busy status ≡ false → IsPlain packet → length packet ≤ 256 → length gots ≡ length packet → poll_end is_busy 4 statuses ≡ Some ready →
-    handled core 256 packet ≡ result → IsAnswer result → IsShort result → CallsLead (table_of core (lpc window status outcome)) (served_calls packet gots got statuses tail) new → Asked core packet ready tail new
-asked-by core window status outcome packet gots got statuses ready tail new Restarts valid size idle plain short each polled same answer fits lead = absurd answer
-asked-by core window status outcome packet gots got statuses ready tail new (Answered after result body) valid size idle plain short each polled same answer fits lead =
+pub answers-by : (core after : Core) (window : List ℕ) (status outcome result : ℕ) (body packet gots : List ℕ) (got : ℕ) (statuses : List ℕ) (ready : Bool) (tail : List HostCall) (new : Table) →
+    length window ≡ 256 → is_busy status ≡ false → IsPlain packet → length packet ≤ 256 → length gots ≡ length packet → poll_end is_busy 4 statuses ≡ Some ready →
+    handled core 256 packet ≡ Answered after result body → length body ≤ 248 → CallsLead (table_of core (lpc window status outcome)) (served_calls packet gots got statuses tail) new → Answers after result body packet gots got statuses ready tail new
+answers-by core after window status outcome result body packet gots got statuses ready tail new size idle plain short each polled same fits lead =
     let asked_window = overwritten 0 packet window in
     let asked_size = overwritten-size packet window size short in
     let written = writes-lead core window status outcome 0x800 0 packet gots (Did (PortOut 0x204 0xDA) got ∷ (waited_reads status_in statuses ++ tail)) new refl (omega (arith, short)) size idle each lead in
-    let commanded = command-lead core asked_window status outcome got (waited_reads status_in statuses ++ tail) new idle written in
-    let served = serve-lead core after asked_window 0xFF result body statuses ready tail new (handled-window core packet window plain ∙ same) polled commanded in
+    let commanded = command-lead core asked_window status outcome got (waited_reads status_in statuses ++ tail) new idle written.1 in
+    let served = serve-lead core after asked_window 0xFF result body statuses ready tail new (handled-window core packet window plain ∙ same) polled commanded.1 in
+    record {
+      rest = drop (0 + length (response_packet result body)) asked_window;
+      window = overwritten 0 (response_packet result body) asked_window;
+      front = refl;
+      size = overwritten-size (response_packet result body) asked_window asked_size (omega (arith, length-response result body, fits));
+      zeros = written.0;
+      taken = commanded.0;
+      once = served.once;
+      ended = served.ended;
+      lead = served.lead;
+    }
+
+asked-by : (core : Core) (window : List ℕ) (status outcome : ℕ) (packet gots : List ℕ) (got : ℕ) (statuses : List ℕ) (ready : Bool) (tail : List HostCall) (new : Table) (result : Outcome) →
+    length window ≡ 256 → is_busy status ≡ false → IsPlain packet → length packet ≤ 256 → length gots ≡ length packet → poll_end is_busy 4 statuses ≡ Some ready →
+    handled core 256 packet ≡ result → IsAnswer result → IsShort result → CallsLead (table_of core (lpc window status outcome)) (served_calls packet gots got statuses tail) new → Asked core packet gots got statuses ready tail new
+asked-by core window status outcome packet gots got statuses ready tail new Restarts size idle plain short each polled same answer fits lead = absurd answer
+asked-by core window status outcome packet gots got statuses ready tail new (Answered after result body) size idle plain short each polled same answer fits lead =
     record {
       after = after;
       status = result;
       body = body;
-      rest = drop (0 + length (response_packet result body)) asked_window;
-      window = overwritten 0 (response_packet result body) asked_window;
       handled_is = same;
       short = fits;
-      front = refl;
-      size = overwritten-size (response_packet result body) asked_window asked_size (omega (arith, length-response result body, fits));
-      ended = served.0;
-      lead = served.1;
+      answers = answers-by core after window status outcome result body packet gots got statuses ready tail new size idle plain short each polled same fits lead;
     }
 
 asked-from : (table : Table) (packet gots : List ℕ) (got : ℕ) (statuses : List ℕ) (first ready : Bool) (tail : List HostCall) (new : Table) → Valid table → IsPlain packet → length packet ≤ 256 → length gots ≡ length packet → poll_end is_busy 4 statuses ≡ Some ready →
-    (at : Idled table first (served_calls packet gots got statuses tail) new) → Asked at.core packet ready tail new
+    (at : Idled table first (served_calls packet gots got statuses tail) new) → Asked at.core packet gots got statuses ready tail new
 asked-from table packet gots got statuses first ready tail new valid plain short each polled at =
     let placed = subst (λ (t : Table). Valid t) at.same valid in
     let valid_core = core-valid at.core at.window at.status at.outcome placed in
-    asked-by at.core at.window at.status at.outcome packet gots got statuses ready tail new (handled at.core 256 packet) valid_core (window-whole at.core at.window at.status at.outcome placed) at.idle plain short each polled refl (plain.answered at.core 256) (row_of-short at.core (asked at.core packet) valid_core) at.lead
+    asked-by at.core at.window at.status at.outcome packet gots got statuses ready tail new (handled at.core 256 packet) (window-whole at.core at.window at.status at.outcome placed) at.idle plain short each polled refl (plain-answered packet at.core 256 plain) (row_of-short at.core (asked at.core packet) valid_core) at.lead
 
 -- the whole of a send that was served, from the settled table
 served-whole : (table : Table) (packet gots : List ℕ) (got : ℕ) (statuses : List ℕ) (first : Bool) (outcome : ℕ) (bytes : List ℕ) (heard : Heard) (new : Table) → Valid table → IsPlain packet → length packet ≤ 256 → length gots ≡ length packet → poll_end is_busy 4 statuses ≡ Some true →
@@ -217,7 +250,8 @@ served-whole : (table : Table) (packet gots : List ℕ) (got : ℕ) (statuses : 
     Idled table first (served_calls packet gots got statuses (Did (PortIn 0x200) outcome ∷ port_reads 0x800 bytes)) new → Serves packet table heard new
 served-whole table packet gots got statuses first outcome bytes heard new valid plain short each polled all heard_is at =
     let asks = asked-from table packet gots got statuses first true (Did (PortIn 0x200) outcome ∷ port_reads 0x800 bytes) new valid plain short each polled at in
-    let hears = hear-lead asks.after asks.window asks.status outcome asks.body asks.rest bytes heard new asks.size asks.front asks.short all heard_is asks.lead in
+    let answers = asks.answers in
+    let hears = hear-lead asks.after answers.window asks.status outcome asks.body answers.rest bytes heard new answers.size answers.front asks.short all heard_is answers.lead in
     let bus = lpc at.window at.status at.outcome in
     let serves : Serves packet (table_of at.core bus) heard new =
     record {
@@ -227,14 +261,14 @@ served-whole table packet gots got statuses first outcome bytes heard new valid 
       status = asks.status;
       body = asks.body;
       handled_is = asks.handled_is;
-      heard_is = hears.0;
-      leaves = record { bus = lpc asks.window 0 (low_status (response_packet asks.status asks.body)); same = hears.1; none_waits = refl };
-      kind = ap (λ (t : Table). t.kind) hears.1;
+      heard_is = hears.heard_is;
+      leaves = record { bus = lpc answers.window 0 (low_status (response_packet asks.status asks.body)); same = hears.leaves; none_waits = refl };
+      kind = ap (λ (t : Table). t.kind) hears.leaves;
     } in
     subst (λ (t : Table). Serves packet t heard new) (sym at.same) serves
 
 -- the entry table of a call, with its core and its bus
-lead-at : (table : Table) (awake : Awake) (calls : List HostCall) (new : Table) → table ≡ table_of (core_of table awake) awake.bus → CallsLead table calls new → CallsLead (table_of (core_of table awake) awake.bus) calls new
+pub lead-at : (table : Table) (awake : Awake) (calls : List HostCall) (new : Table) → table ≡ table_of (core_of table awake) awake.bus → CallsLead table calls new → CallsLead (table_of (core_of table awake) awake.bus) calls new
 lead-at table awake calls new same lead = subst (λ (t : Table). CallsLead t calls new) same lead
 
 settled-by-awake : (table : Table) (awake : Awake) → table ≡ table_of (core_of table awake) awake.bus → settled (table_of (core_of table awake) awake.bus) ≡ settled table
@@ -275,7 +309,7 @@ lpc-calm table awake packet calls heard new valid on kind plain short (LpcWasUns
     unserved.made ∙ ap (λ (xs : List HostCall). xs ++ waited_reads status_in unserved.statuses) asked.made ∙ regroup3 (spaced_reads status_in asked.statuses) (port_writes 0x800 packet asked.gots) (waited_reads status_in unserved.statuses) (Did (PortOut 0x204 0xDA) asked.got) in
     let at = idled-at table awake asked.statuses true calls (served_calls packet asked.gots asked.got unserved.statuses []) new valid on kind facts.kind facts.valid asked.idle grouped lead in
     let asks = asked-from _ packet asked.gots asked.got unserved.statuses true false [] new (settled-valid table awake same valid) plain short asked.each unserved.busy at in
-    absurd (let e : false ≡ true = asks.ended in cc)
+    absurd (let e : false ≡ true = asks.answers.ended in cc)
 lpc-calm table awake packet calls heard new valid on kind plain short (LpcWasServed served) lead =
     let facts = bus-facts table awake valid on in
     let asked = served.asked in

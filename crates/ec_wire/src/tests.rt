@@ -1,0 +1,30 @@
+// What no contract says: with ample memory a journal gets its room.
+use crate::Journal;
+use ec_model::{Access, Entry, Event, Hurt};
+use std::test::Fail;
+
+#[test]
+fn keeps_what_was_pushed(rt: HostRuntime) -> Result<(), Fail> {
+    let step = Entry::Step {
+        event: Event::Access {
+            a: Access::PortOut {
+                port: 0x204,
+                byte: 0xDA,
+            },
+        },
+        answer: 0,
+        meant: 0xDA,
+        seen: 0,
+        hurt: Hurt::Whole,
+    };
+    let mark = Entry::Mark { line: 0x01020304 };
+    let mut journal = Journal::new(rt.alloc());
+    journal.reserve(2)?;
+    assert_eq!(rt; journal.spare(), 2);
+    journal.push(mark);
+    journal.push(step);
+    assert_eq!(rt; journal.len(), 2);
+    assert_eq!(rt; journal.get(0), mark);
+    assert_eq!(rt; journal.get(1), step);
+    Ok(())
+}

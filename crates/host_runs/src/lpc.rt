@@ -1,0 +1,48 @@
+// What holds on LPC, from a valid table.
+ghost use Rattle.std.specs.Prelude.{◌≡◌, ◌≤◌, List, ℕ, length};
+ghost use Rattle.ec_types.specs.declared.bus.BusKind.TheVariants.{Lpc};
+ghost use Rattle.ec_model.specs.declared.event.Entry.{Entry};
+ghost use Rattle.ec_model.specs.Packet.{response_packet};
+ghost use Rattle.ec_model.specs.HostCalls.{HostCall};
+ghost use Rattle.ec_model.specs.Table.{Table, Awake, Core, Off, On, Valid, core_of};
+ghost use Rattle.ec_model.specs.Answer.{Answered};
+ghost use Rattle.ec_model.specs.Handle.{handled};
+ghost use Rattle.ec_model.specs.Run.{IsRun};
+ghost use Rattle.ec_model.specs.Send.{Heard, Silent, Send, SendsBy, QuietBy};
+ghost use Rattle.ec_model.specs.Syncable.{settled};
+ghost use Rattle.host_runs.specs.Calm.{CallsLead};
+ghost use Rattle.host_runs.specs.Exchange.{ShowsIdle, Exchanges};
+ghost use Rattle.host_runs.specs.Resting.{Rests};
+ghost use Rattle.host_runs.specs.Served.{IsPlain, Serves, Settles};
+
+/// An undisturbed send to a controller that is on is served, once the request that waits is. One to a controller that is
+/// off hears nothing.
+pub fn lpc_sends()
+    ensures on { (table : Table) (awake : Awake) (packet : List ℕ) (calls : List HostCall) (heard : Heard) (new : Table) →
+        Valid table → table.power ≡ On awake → table.kind ≡ Lpc → IsPlain packet → length packet ≤ 256 →
+        SendsBy Lpc packet calls heard → CallsLead table calls new → Serves packet (settled table) heard new }
+    ensures off { (table : Table) (packet : List ℕ) (calls : List HostCall) (heard : Heard) (new : Table) →
+        table.power ≡ Off → SendsBy Lpc packet calls heard → CallsLead table calls new → heard ≡ Silent }
+{}
+
+/// An undisturbed send from a bus that is not busy is one exchange, call by call.
+pub fn lpc_exchanges()
+    ensures { (table : Table) (awake : Awake) (status : ℕ) (packet : List ℕ) (calls : List HostCall) (heard : Heard) (new : Table)
+        (after : Core) (result : ℕ) (body : List ℕ) → Valid table → table.power ≡ On awake → ShowsIdle status awake.bus →
+        IsPlain packet → length packet ≤ 256 → SendsBy Lpc packet calls heard → CallsLead table calls new →
+        handled (core_of table awake) 256 packet ≡ Answered after result body →
+        Exchanges status packet (response_packet result body) after calls heard new }
+{}
+
+/// Where the bus of a controller that is on is brought to rest, and nothing disturbs that, the request that waits was
+/// served.
+pub fn lpc_quiets()
+    ensures { (table : Table) (awake : Awake) (calls : List HostCall) (new : Table) → Valid table → table.power ≡ On awake →
+        table.kind ≡ Lpc → QuietBy Lpc calls → CallsLead table calls new → Settles (settled table) new }
+{}
+
+/// No request waits behind a send, whatever the world did in it and whatever failed.
+pub fn lpc_rests()
+    ensures { (old : Table) (entries : List Entry) (packet : List ℕ) (heard : Heard) (new : Table) → Valid old →
+        Send Lpc entries packet heard → IsRun old entries new → Rests new }
+{}

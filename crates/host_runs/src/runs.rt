@@ -1,0 +1,21 @@
+// What holds on every bus.
+ghost use Rattle.std.specs.Prelude.{List, ℕ};
+ghost use Rattle.ec_model.specs.declared.event.Entry.{Entry};
+ghost use Rattle.ec_model.specs.Table.{Table, Core};
+ghost use Rattle.ec_model.specs.Handle.{handled};
+ghost use Rattle.ec_model.specs.Run.{IsRun};
+ghost use Rattle.ec_model.specs.Upset.{IsUndisturbed};
+ghost use Rattle.ec_model.specs.HostCalls.{calls_of};
+ghost use Rattle.host_runs.specs.Calm.{CallsLead};
+ghost use Rattle.host_runs.specs.Served.{IsPlain, IsAnswer};
+
+/// Where nothing disturbs a run, it is determined by the host's calls.
+pub fn calm_runs()
+    ensures { (old : Table) (entries : List Entry) (new : Table) → IsUndisturbed entries → IsRun old entries new →
+        CallsLead old (calls_of entries) new }
+{}
+
+/// A request that is no COLD is answered.
+pub fn plain_requests()
+    ensures { (packet : List ℕ) (core : Core) (limit : ℕ) → IsPlain packet → IsAnswer (handled core limit packet) }
+{}
