@@ -17,7 +17,7 @@ HurtRose Failed old new = Rose old.faults new.faults
 HurtRose Cut old new = Rose old.cuts new.cuts
 
 -- what is left of a device once at most so many bytes were asked of its reads
-pub record IsSpent (hurt : Hurt) (asked : ℕ) (old new : DeviceView) : Type 0 where
+pub record Costs (hurt : Hurt) (asked : ℕ) (old new : DeviceView) : Type 0 where
   pub extent : new.extent ≡ old.extent
   pub faults : old.faults ≤ new.faults
   pub cuts : old.cuts ≤ new.cuts

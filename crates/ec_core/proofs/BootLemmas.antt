@@ -15,9 +15,8 @@ use Rattle.ec_model.specs.Table.{Core, Table, table_of, off_table}
 use Rattle.ec_model.specs.Boot.{booted, booted_table}
 use Rattle.ec_model.specs.Step.{Work, Boot, WorkLeaves, OffLeaves, work_off, lost_answer, operations_of, After}
 use Rattle.ec_boot.specs.States.{RunView, OffView, core_at, told_core, IsLookedAt}
-use Rattle.ec_boot.specs.Spent.{IsSpent}
 use Rattle.command_table.specs.After.{Follows}
-use Rattle.ec_core.specs.Held.{up_table, down_table, EventTold, answer_by, boot_hurt}
+use Rattle.ec_core.specs.Held.{up_table, down_table, IsSpent, EventTold, answer_by, boot_hurt}
 use Rattle.ec_core.specs.Task.{IsTakenUp, IsTakenDown, IsStepped}
 use Rattle.ec_core.specs.declared.held.Held.{Held}
 use Rattle.ec_core.specs.declared.held.Held.TheVariants.{Down, Up}
@@ -65,7 +64,7 @@ boot-alive true cut = cc
 boot-alive false cut = cc
 
 -- a boot reads eight bytes
-boot-spent : (bad : Bool) (old new : DeviceView) → IsLookedAt bad old new → IsSpent (boot_hurt bad) 1024 old new
+boot-spent : (bad : Bool) (old new : DeviceView) → IsLookedAt bad old new → IsSpent (boot_hurt bad) old new
 boot-spent true old new looked =
     record { extent = looked.extent; faults = looked.faults; cuts = looked.cuts; rose = looked.failed refl; fetched = record { least = omega (arith, looked.fetched); most = omega (arith, looked.fetched) } }
 boot-spent false old new looked =

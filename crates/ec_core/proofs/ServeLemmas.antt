@@ -20,13 +20,13 @@ use Rattle.ec_packet.specs.declared.request.Request.{Request}
 use Rattle.ec_packet.specs.Read.{request_view, IsReadAs}
 use Rattle.ec_wire.specs.Dues.{asked_of}
 use Rattle.ec_boot.specs.States.{RunView, OffView, core_at, told_core}
-use Rattle.ec_boot.specs.Spent.{IsSpent, RisesAtMost}
+use Rattle.ec_boot.specs.Spent.{Costs, RisesAtMost}
 use Rattle.command_table.specs.declared.table.After.{After}
 use Rattle.command_table.specs.declared.table.After.TheVariants.{Ro}
 use Rattle.command_table.specs.Leaves.{FoundLeaves, HasReply, IsStopped}
 use Rattle.command_table.specs.After.{Follows, IsAnswered, IsLostIn, StaysOn, GoesOff}
 use Rattle.ec_core.specs.View.{WearsBy}
-use Rattle.ec_core.specs.Held.{awake_of, up_table, down_table, answer_by}
+use Rattle.ec_core.specs.Held.{awake_of, up_table, down_table, answer_by, IsSpent}
 use Rattle.ec_core.specs.Task.{IsTakenUp, IsStepped}
 use Rattle.ec_core.specs.declared.held.Held.{Held}
 use Rattle.ec_core.specs.declared.held.Held.TheVariants.{Down, Up}
@@ -161,7 +161,7 @@ on-alive Failed alive = refl
 on-alive Cut alive = absurd (alive refl)
 
 -- a request reads less than a tick may
-spent-more : (hurt : Hurt) (limit : ℕ) (old new : DeviceView) → IsLimit limit → IsSpent hurt (limit - 8) old new → IsSpent hurt 1024 old new
+spent-more : (hurt : Hurt) (limit : ℕ) (old new : DeviceView) → IsLimit limit → Costs hurt (limit - 8) old new → IsSpent hurt old new
 spent-more hurt limit old new is spent =
     record { extent = spent.extent; faults = spent.faults; cuts = spent.cuts; rose = spent.rose; fetched = record { least = spent.fetched.least; most = omega (arith, spent.fetched.most) } }
 

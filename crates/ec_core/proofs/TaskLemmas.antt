@@ -10,18 +10,18 @@ use Rattle.ec_model.specs.declared.event.Hurt.{Hurt}
 use Rattle.ec_model.specs.declared.event.Hurt.TheVariants.{Whole, Failed, Cut}
 use Rattle.ec_model.specs.declared.event.Event.{Event}
 use Rattle.ec_model.specs.declared.event.Event.TheVariants.{Access, Tick, Reset, Power as PowerEvent, Pin}
-use Rattle.ec_model.specs.declared.event.Entry.TheVariants.{Step}
-use Rattle.ec_model.specs.HostCalls.{on_after_event, on_after_entry}
+use Rattle.ec_model.specs.HostCalls.{on_after_event}
+use Rattle.ec_model.specs.Guarded.{pin_after}
 use Rattle.ec_model.specs.Bus.{BusState, BusAnswer, kind_of, fresh_bus}
 use Rattle.ec_model.specs.Table.{Core, Table, table_of, off_table}
 use Rattle.ec_model.specs.Boot.{booted, booted_table}
 use Rattle.ec_model.specs.Step.{Work, Rest, Serve, Boot, Stop, SetPin, WorkLeaves, OffLeaves, work_on, work_off, worked_off, bus_after, lost_answer, operations_of, After}
 use Rattle.ec_wire.specs.Dues.{asked_of}
 use Rattle.ec_boot.specs.States.{RunView, OffView, core_at, told_core}
-use Rattle.ec_boot.specs.Spent.{IsSpent, RisesAtMost}
+use Rattle.ec_boot.specs.Spent.{Costs, RisesAtMost}
 use Rattle.command_table.specs.After.{Follows}
-use Rattle.ec_core.specs.View.{pin_after, WearsBy}
-use Rattle.ec_core.specs.Held.{awake_of, up_table, down_table, held_table, held_pin, held_device, is_up, is_kept_up, IsCalm, EventTold, answer_by, boot_hurt}
+use Rattle.ec_core.specs.View.{WearsBy}
+use Rattle.ec_core.specs.Held.{awake_of, up_table, down_table, held_table, held_pin, held_device, is_up, is_kept_up, IsCalm, IsSpent, IsSilent, EventTold, answer_by, boot_hurt, on_behind}
 use Rattle.ec_core.specs.Task.{IsTakenUp, IsTakenDown, IsTaken, IsStepped, CanCarry, on_after_task, pin_after_task}
 use Rattle.ec_core.specs.declared.held.Held.{Held}
 use Rattle.ec_core.specs.declared.held.Held.TheVariants.{Down, Up}
@@ -60,15 +60,23 @@ on_by Cut on = false
 on_by Whole on = on
 on_by Failed on = on
 
-on-after : (hurt : Hurt) (event : Event) (said : ℕ) (before after : Bool) → on_after_event event before ≡ after → on_after_entry (Step event said 0 0 hurt) before ≡ on_by hurt after
-on-after Whole event said before after same = same
-on-after Failed event said before after same = same
-on-after Cut event said before after same = refl
+on-after : (hurt : Hurt) (event : Event) (before after : Bool) → on_after_event event before ≡ after → on_behind hurt event before ≡ on_by hurt after
+on-after Whole event before after same = same
+on-after Failed event before after same = same
+on-after Cut event before after same = refl
 
-silent-by : (hurt : Hurt) (answer lost : ℕ) → (lost ≡ 0 → answer ≡ 0) → lost ≡ 0 → answer_by hurt answer lost ≡ 0
-silent-by Whole answer lost silent none = silent none
-silent-by Failed answer lost silent none = silent none
-silent-by Cut answer lost silent none = none
+-- without power, an event that is no access answers 0
+lost-silent : (event : Event) → IsSilent event (lost_answer event)
+lost-silent (Access access) = tt
+lost-silent Tick = refl
+lost-silent (Reset cause) = refl
+lost-silent (PowerEvent on) = refl
+lost-silent (Pin on) = refl
+
+silent-by : (hurt : Hurt) (event : Event) (answer : ℕ) → IsSilent event answer → IsSilent event (answer_by hurt answer (lost_answer event))
+silent-by Whole event answer silent = silent
+silent-by Failed event answer silent = silent
+silent-by Cut event answer silent = lost-silent event
 
 -- a count that stays
 pub stays : (amount before now : ℕ) → now ≡ before → RisesAtMost amount before now
@@ -77,17 +85,17 @@ stays amount before now same = record { least = omega arith; most = omega arith 
 -- a step of a controller that is on, by its parts
 pub step-up : {F : Type 0} (kind : BusKind) (event : Event) (hurt : Hurt) (answer : ℕ) (old_bus bus new_bus : BusState) (task : Option Task) (run : RunView) (new : Held F) →
     IsTakenUp event old_bus task bus answer run → EventTold hurt event (answer_by hurt answer (lost_answer event)) (up_table old_bus run) (held_table kind new_bus new) →
-    is_up new ≡ on_by hurt (on_after_task task true) → held_pin new ≡ pin_after_task task run.pin → IsCalm new_bus new → IsSpent hurt 1024 run.device (held_device new) →
+    is_up new ≡ on_by hurt (on_after_task task true) → held_pin new ≡ pin_after_task task run.pin → IsCalm new_bus new → IsSpent hurt run.device (held_device new) →
     WearsBy event (up_table old_bus run) run.device.wear (held_device new).wear →
     IsStepped kind event hurt (answer_by hurt answer (lost_answer event)) old_bus new_bus (Some (Up run)) (Some new)
 step-up kind event hurt answer old_bus bus new_bus task run new taken told on pin calm spent wear =
     record {
       told = told;
-      on = on ∙ sym (on-after hurt event (answer_by hurt answer (lost_answer event)) true (on_after_task task true) taken.like.on_is);
+      on = on ∙ sym (on-after hurt event true (on_after_task task true) taken.like.on_is);
       pin = pin ∙ sym (taken.like.pin_is run.pin);
       off = λ up. cc;
       lost = λ cut. ap (λ (h : Hurt). answer_by h answer (lost_answer event)) cut;
-      silent = silent-by hurt answer (lost_answer event) taken.like.silent;
+      silent = silent-by hurt event answer taken.like.silent;
       calm = calm;
       spent = spent;
       wear = wear;
@@ -96,7 +104,7 @@ step-up kind event hurt answer old_bus bus new_bus task run new taken told on pi
 -- a step of a controller that is off, by its parts
 pub step-down : {F : Type 0} (kind : BusKind) (event : Event) (hurt : Hurt) (answer : ℕ) (old_bus new_bus : BusState) (task : Option Task) (off : OffView) (pin : Bool) (new : Held F) → (hurt ≡ Cut → ⊥) →
     IsTakenDown event task answer → EventTold hurt event answer (down_table kind pin off) (held_table kind new_bus new) →
-    is_up new ≡ on_after_task task false → held_pin new ≡ pin_after_task task pin → IsCalm new_bus new → IsSpent hurt 1024 off.device (held_device new) → (held_device new).wear ≡ off.device.wear →
+    is_up new ≡ on_after_task task false → held_pin new ≡ pin_after_task task pin → IsCalm new_bus new → IsSpent hurt off.device (held_device new) → (held_device new).wear ≡ off.device.wear →
     IsStepped kind event hurt (answer_by hurt answer (lost_answer event)) old_bus new_bus (Some (Down off pin)) (Some new)
 step-down {F} kind event hurt answer old_bus new_bus task off pin new alive taken told on pin_is calm spent wear =
     subst (λ (said : ℕ). IsStepped {F = F} kind event hurt said old_bus new_bus (Some (Down off pin)) (Some new)) (sym (by hurt))
@@ -115,13 +123,13 @@ step-down {F} kind event hurt answer old_bus new_bus task off pin new alive take
       by Whole = refl
       by Failed = refl
       by Cut = sym taken.answer_is
-      on_is : (h : Hurt) → (h ≡ Cut → ⊥) → on_after_entry (Step event answer 0 0 h) false ≡ on_after_task task false
+      on_is : (h : Hurt) → (h ≡ Cut → ⊥) → on_behind h event false ≡ on_after_task task false
       on_is Whole lives = taken.like.on_is
       on_is Failed lives = taken.like.on_is
       on_is Cut lives = absurd (lives refl)
 
 -- nothing was spent
-pub unspent : (asked : ℕ) (device : DeviceView) → IsSpent Whole asked device device
+pub unspent : (asked : ℕ) (device : DeviceView) → Costs Whole asked device device
 unspent asked device =
     record { extent = refl; faults = omega arith; cuts = omega arith; rose = tt; fetched = stays asked device.fetched device.fetched refl }
 
@@ -166,7 +174,7 @@ stopped-up {F} kind event answer old_bus bus run off pin kind_is device_is pin_i
     subst (λ (p : Bool). IsStepped {F = F} kind event Whole answer old_bus bus (Some (Up run)) (Some (Down off p))) (sym pin_is)
     (step-up {F = F} kind event Whole answer old_bus bus bus (Some StopTask) run (Down off run.pin) taken
     (event-told Whole event old_bus bus answer answer run Stop (down_table kind run.pin off) taken.state taken.answer_is taken.task_is (stop-told bus kind answer (lost_answer event) run off kind_is device_is))
-    refl refl tt (subst (λ (device : DeviceView). IsSpent Whole 1024 run.device device) (sym device_is) (unspent 1024 run.device))
+    refl refl tt (subst (λ (device : DeviceView). IsSpent Whole run.device device) (sym device_is) (unspent 1024 run.device))
     (λ table told. stays (length (operations_of table event)) run.device.wear off.device.wear (ap (λ (device : DeviceView). device.wear) device_is)))
 
 -- a change of the pin

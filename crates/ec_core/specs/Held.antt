@@ -4,11 +4,14 @@ use Rattle.flash_dev.specs.Told.{Changes}
 use Rattle.flash_dev.specs.Device.{DeviceView}
 use Rattle.ec_types.specs.declared.bus.BusKind.{BusKind}
 use Rattle.ec_model.specs.declared.event.Event.{Event}
+use Rattle.ec_model.specs.declared.event.Event.TheVariants.{Access as AccessEvent}
 use Rattle.ec_model.specs.declared.event.Hurt.{Hurt}
 use Rattle.ec_model.specs.declared.event.Hurt.TheVariants.{Whole, Failed, Cut}
 use Rattle.ec_model.specs.Bus.{BusState, due_now}
 use Rattle.ec_model.specs.Table.{Awake, Table, Core, Valid, off_table, table_of}
+use Rattle.ec_model.specs.HostCalls.{on_after_event}
 use Rattle.ec_model.specs.Step.{EventLeaves}
+use Rattle.ec_boot.specs.Spent.{Costs}
 use Rattle.ec_boot.specs.States.{RunView, OffView, core_at, told_core}
 use Rattle.ec_core.specs.declared.held.Held.{Held}
 use Rattle.ec_core.specs.declared.held.Held.TheVariants.{Down, Up}
@@ -85,6 +88,21 @@ answer_by Failed answer lost = answer
 -- what an event leaves and answers, where the flash tells its bytes
 abbrev pub EventTold : Hurt → Event → ℕ → Option Table → Option Table → Type 0
 EventTold hurt event answer = Changes (λ old new. EventLeaves hurt old event (record { table = new; answer = answer }))
+
+-- an event that is no access answers 0
+abbrev pub IsSilent : Event → ℕ → Type 0
+IsSilent (AccessEvent access) answer = ⊤
+IsSilent other answer = answer ≡ 0
+
+-- whether the controller is on behind an event, by what a flash call did in it and whether it was on before
+abbrev pub on_behind : Hurt → Event → Bool → Bool
+on_behind Cut event before = false
+on_behind Whole event before = on_after_event event before
+on_behind Failed event before = on_after_event event before
+
+-- what an event costs the device: at most 1,024 bytes are read
+abbrev pub IsSpent : Hurt → DeviceView → DeviceView → Type 0
+IsSpent hurt old new = Costs hurt 1024 old new
 
 -- what a boot met
 abbrev pub boot_hurt : Bool → Hurt

@@ -2,17 +2,16 @@
 use Rattle.std.specs.Prelude.{◌≡◌, ℕ, Bool, true, false, IsNone, IsSome, IsFalse, List, Option, Some, None, ⊤}
 use Rattle.ec_types.specs.declared.bus.BusKind.{BusKind}
 use Rattle.ec_model.specs.declared.event.Event.{Event}
-use Rattle.ec_model.specs.declared.event.Entry.TheVariants.{Step}
 use Rattle.ec_model.specs.declared.event.Hurt.{Hurt}
 use Rattle.ec_model.specs.declared.event.Hurt.TheVariants.{Whole, Failed, Cut}
 use Rattle.ec_model.specs.Bus.{BusState, BusAnswer, due_now}
-use Rattle.ec_model.specs.HostCalls.{on_after_event, on_after_entry}
+use Rattle.ec_model.specs.HostCalls.{on_after_event}
+use Rattle.ec_model.specs.Guarded.{pin_after}
 use Rattle.ec_model.specs.Step.{Work, Rest, Serve, Boot, Stop, SetPin, work_on, work_off, bus_after, lost_answer}
 use Rattle.ec_wire.specs.Dues.{asked_of}
 use Rattle.ec_boot.specs.States.{RunView}
-use Rattle.ec_boot.specs.Spent.{IsSpent}
-use Rattle.ec_core.specs.Held.{awake_of, kept_table, kept_device, kept_pin, is_kept_up, IsKept, EventTold, answer_by}
-use Rattle.ec_core.specs.View.{pin_after, WearsBy}
+use Rattle.ec_core.specs.Held.{awake_of, kept_table, kept_device, kept_pin, is_kept_up, IsKept, IsSpent, IsSilent, EventTold, answer_by, on_behind}
+use Rattle.ec_core.specs.View.{WearsBy}
 use Rattle.ec_core.specs.declared.held.Held.{Held}
 use Rattle.ec_core.specs.declared.held.Held.TheVariants.{Down, Up}
 use Rattle.ec_core.specs.declared.task.Task.{Task}
@@ -59,7 +58,7 @@ pin_after_task other before = before
 pub record IsLike (event : Event) (task : Option Task) (answer : ℕ) (on : Bool) : Type 0 where
   pub on_is : on_after_event event on ≡ on_after_task task on
   pub pin_is : (pin : Bool) → pin_after event pin ≡ pin_after_task task pin
-  pub silent : lost_answer event ≡ 0 → answer ≡ 0
+  pub silent : IsSilent event answer
 
 -- a controller that is on took an event
 pub record IsTakenUp (event : Event) (old_bus : BusState) (task : Option Task) (bus : BusState) (answer : ℕ) (run : RunView) : Type 0 where
@@ -84,13 +83,13 @@ IsTaken event old_bus task bus answer (Some (Down off pin)) = IsTakenDown event 
 -- what an event made of what a controller holds, and answered
 pub record IsStepped {F : Type 0} (kind : BusKind) (event : Event) (hurt : Hurt) (answer : ℕ) (old_bus bus : BusState) (old new : Option (Held F)) : Type 0 where
   pub told : EventTold hurt event answer (kept_table kind old_bus old) (kept_table kind bus new)
-  pub on : is_kept_up new ≡ on_after_entry (Step event answer 0 0 hurt) (is_kept_up old)
+  pub on : is_kept_up new ≡ on_behind hurt event (is_kept_up old)
   pub pin : kept_pin new ≡ pin_after event (kept_pin old)
   pub off : IsFalse (is_kept_up old) → answer ≡ lost_answer event
   pub lost : hurt ≡ Cut → answer ≡ lost_answer event
-  pub silent : lost_answer event ≡ 0 → answer ≡ 0
+  pub silent : IsSilent event answer
   pub calm : IsKept bus new
-  pub spent : IsSpent hurt 1024 (kept_device old) (kept_device new)
+  pub spent : IsSpent hurt (kept_device old) (kept_device new)
   pub wear : WearsBy event (kept_table kind old_bus old) (kept_device old).wear (kept_device new).wear
 
 -- what a task made of what a controller holds, for each event that it is the task of

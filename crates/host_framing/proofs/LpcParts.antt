@@ -8,7 +8,7 @@ use Rattle.ec_model.specs.HostCalls.{HostCall, Did, calls_of}
 use Rattle.ec_model.specs.Send.{Heard, Bad, Silent, waited_reads, spaced_reads, status_in, port_reads, port_writes, LpcSend, LpcWasBlocked, LpcWasUnserved, LpcWasServed, LpcQuiet, is_all_read, reads_on, heard_if, heard_with}
 use Rattle.ec_wire.specs.Calls.{WireView, Made}
 use Rattle.host_framing.specs.Parts.{PollsWaited, PollsSpaced, WritesPorts, ReadsPorts, LpcAsks, LpcHears, Quiets, Sends}
-use Rattle.host_framing.proofs.MadeLemmas.{made-then, made-as}
+use Rattle.ec_wire.proofs.Growth.{made-then, made-as}
 use Rattle.host_framing.proofs.PollLemmas.{port_reads-append}
 
 pub asks-written : (packet bytes : List ℕ) (got : ℕ) (old first second new : WireView) → bytes ≡ packet → PollsSpaced true old first → WritesPorts bytes first second → Made (Did (PortOut 0x204 0xDA) got ∷ []) second new → LpcAsks packet true old new

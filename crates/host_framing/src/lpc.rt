@@ -1,17 +1,32 @@
-// The sequences on LPC.
+// The sequences on LPC: a window of 256 bytes for the packet, a port that shows the status and takes the command byte, and
+// one that shows the low byte of the result.
 ghost use Rattle.std.specs.Prelude.{◌≡◌, ◌≤◌, ◌+◌, ◌∷◌, [], ℕ, length};
 ghost use Rattle.ec_model.specs.Packet.{response_length};
 ghost use Rattle.ec_model.specs.Bus.{is_busy};
 ghost use Rattle.ec_types.specs.declared.bus.BusKind.TheVariants.{Lpc as LpcKind};
 ghost use Rattle.host_framing.specs.Parts.{PollsWaited, PollsSpaced, WritesPorts, ReadsPorts, LpcAsks, LpcHears, Quiets, Sends};
 ghost use Rattle.host_framing.specs.Heard.{heard_of};
-ghost use Rattle.host_framing.specs.Clean.{ServesWhereCalm, SettlesWhereCalm, CausedWhereCalm, RestsBehind};
+ghost use Rattle.host_framing.specs.Clean.{UndisturbedWhereCalm, ServesWhereCalm, SettlesWhereCalm, ExchangesWhereCalm, CausedWhereCalm, RestsBehind};
 ghost use Rattle.host_runs.specs.Served.{IsPlain};
 
 use crate::calls::{Raw, did, judge, waited};
+use byteorder::{ByteOrder, LittleEndian};
 use ec_model::Access;
 use ec_packet::Packet;
 use ec_wire::Wire;
+
+// The window's first port, that of the status and the command, and that of the result byte.
+const WINDOW: u16 = 0x800;
+
+const STATUS: u16 = 0x204;
+
+const RESULT: u16 = 0x200;
+
+// Has the controller serve the packet in the window.
+const PROTOCOL_3: u8 = 0xDA;
+
+// The most bytes of a body that the window has room for.
+const LARGEST_BODY: u16 = 248;
 
 // Whether a status says busy.
 fn busy(status: u8) -> bool
@@ -28,7 +43,7 @@ fn poll_waited<W: Wire>(w: &mut W) -> bool
 {
     for turn in 0..4u8 {
         waited(w);
-        let status = did(w, Access::PortIn { port: 0x204 });
+        let status = did(w, Access::PortIn { port: STATUS });
         if !busy(status) {
             return true;
         }
@@ -42,7 +57,7 @@ fn poll_spaced<W: Wire>(w: &mut W) -> bool
     ensures polls { PollsSpaced result (W.view w.old) (W.view w.new) }
     ensures room { (W.view w.old).spare ≤ (W.view w.new).spare + 9 }
 {
-    let status = did(w, Access::PortIn { port: 0x204 });
+    let status = did(w, Access::PortIn { port: STATUS });
     if !busy(status) {
         return true;
     }
@@ -60,7 +75,7 @@ fn write_window<W: Wire>(w: &mut W, bytes: &[u8])
         did(
             w,
             Access::PortOut {
-                port: 0x800 + place as u16,
+                port: WINDOW + place as u16,
                 byte: *byte,
             },
         );
@@ -95,19 +110,19 @@ fn ask_lpc<W: Wire>(w: &mut W, packet: &Packet) -> bool
     did(
         w,
         Access::PortOut {
-            port: 0x204,
-            byte: 0xDA,
+            port: STATUS,
+            byte: PROTOCOL_3,
         },
     );
     true
 }
 
-// The length that a response's header names.
+// How long a body a response's header names.
 fn named_length(bytes: &[u8]) -> u16
     requires { 8 ≤ length bytes.now }
     ensures { result ≡ response_length bytes.now }
 {
-    bytes[4] as u16 + 256 * (bytes[5] as u16)
+    LittleEndian::read_u16(&bytes[4..])
 }
 
 // The last two steps of a send.
@@ -116,38 +131,34 @@ fn hear_lpc<W: Wire>(w: &mut W, reply: &mut Packet) -> Raw
     ensures hears { LpcHears (heard_of result reply.new) (W.view w.old) (W.view w.new) }
     ensures room { (W.view w.old).spare ≤ (W.view w.new).spare + 257 }
 {
-    let outcome = did(w, Access::PortIn { port: 0x200 });
+    let outcome = did(w, Access::PortIn { port: RESULT });
     reply.clear();
-    read_window(w, 0x800, 8, reply);
+    read_window(w, WINDOW, 8, reply);
     let named = named_length(reply.as_slice());
-    if named > 248 {
+    if named > LARGEST_BODY {
         return Raw::Bad;
     }
-    read_window(w, 0x808, named, reply);
+    read_window(w, WINDOW + 8, named, reply);
     judge(outcome, reply)
 }
 
-/// Brings LPC to rest.
+/// Brings LPC to rest: reads the status until it is not busy, with a wait between each two reads, at most five times.
 pub fn quiet_lpc<W: Wire>(w: &mut W)
     requires bus { (W.view w.old).bus ≡ LpcKind }
     requires room { 9 ≤ (W.view w.old).spare }
     ensures quiets { Quiets LpcKind (W.view w.old) (W.view w.new) }
+    ensures undisturbed { UndisturbedWhereCalm (W.view w.old) (W.view w.new) }
     ensures calm { SettlesWhereCalm (W.view w.old) (W.view w.new) }
     ensures room { (W.view w.old).spare ≤ (W.view w.new).spare + 9 }
 {
     poll_spaced(w);
 }
 
-/// Sends the packet on LPC, and reads the reply.
-pub fn send_lpc<W: Wire>(w: &mut W, packet: &Packet, reply: &mut Packet) -> Raw
-    requires bus { (W.view w.old).bus ≡ LpcKind }
+// The steps of a send.
+fn steps_lpc<W: Wire>(w: &mut W, packet: &Packet, reply: &mut Packet) -> Raw
     requires room { 1500 ≤ (W.view w.old).spare }
     requires short { length packet.now ≤ 256 }
-    requires plain { IsPlain packet.now }
     ensures sends { Sends LpcKind packet.now (heard_of result reply.new) (W.view w.old) (W.view w.new) }
-    ensures calm { ServesWhereCalm packet.now (heard_of result reply.new) (W.view w.old) (W.view w.new) }
-    ensures cause { CausedWhereCalm (heard_of result reply.new) (W.view w.old) (W.view w.new) }
-    ensures rests { RestsBehind (W.view w.old) (W.view w.new) }
     ensures room { (W.view w.old).spare ≤ (W.view w.new).spare + 1200 }
 {
     if !ask_lpc(w, packet) {
@@ -157,4 +168,22 @@ pub fn send_lpc<W: Wire>(w: &mut W, packet: &Packet, reply: &mut Packet) -> Raw
         return Raw::Silent;
     }
     hear_lpc(w, reply)
+}
+
+/// Sends the packet on LPC, and reads the response. At `Raw::Reply` it is in `reply`; otherwise what `reply` has is no
+/// response to the packet.
+pub fn send_lpc<W: Wire>(w: &mut W, packet: &Packet, reply: &mut Packet) -> Raw
+    requires bus { (W.view w.old).bus ≡ LpcKind }
+    requires room { 1500 ≤ (W.view w.old).spare }
+    requires short { length packet.now ≤ 256 }
+    requires plain { IsPlain packet.now }
+    ensures sends { Sends LpcKind packet.now (heard_of result reply.new) (W.view w.old) (W.view w.new) }
+    ensures undisturbed { UndisturbedWhereCalm (W.view w.old) (W.view w.new) }
+    ensures calm { ServesWhereCalm packet.now (heard_of result reply.new) (W.view w.old) (W.view w.new) }
+    ensures exchange { ExchangesWhereCalm packet.now (heard_of result reply.new) (W.view w.old) (W.view w.new) }
+    ensures cause { CausedWhereCalm (heard_of result reply.new) (W.view w.old) (W.view w.new) }
+    ensures rests { RestsBehind (W.view w.old) (W.view w.new) }
+    ensures room { (W.view w.old).spare ≤ (W.view w.new).spare + 1200 }
+{
+    steps_lpc(w, packet, reply)
 }

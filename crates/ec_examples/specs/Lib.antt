@@ -1,0 +1,9 @@
+pub mod Flashes
+pub mod Events
+pub mod Cores
+pub mod Replies
+pub mod Entries
+pub mod Waiting
+pub mod Sends
+pub mod Tries
+pub mod I2cExchanges
