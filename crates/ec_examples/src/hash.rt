@@ -1,6 +1,5 @@
 // VBOOT_HASH: which ranges are hashed, by how many ticks, and what drops a hash.
-ghost use Rattle.std.specs.Prelude.{◌≡◌, ℕ, List, [], ◌∷◌, ◌++◌, replicate, Some, None};
-ghost use Rattle.ec_types.specs.declared.image.ImageCopy.TheVariants.{Rw};
+ghost use Rattle.std.specs.Prelude.{◌≡◌, [], ◌∷◌, replicate, Some, None};
 ghost use Rattle.ec_model.specs.declared.live.HashView.TheVariants.{Idle, Busy, Done};
 ghost use Rattle.ec_model.specs.Commands.{FlashWrite, VbootHash};
 ghost use Rattle.ec_model.specs.Bodies.{flash_write_ask, vboot_hash_ask};

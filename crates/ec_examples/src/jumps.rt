@@ -1,5 +1,5 @@
 // REBOOT_EC: jumps from one image to the other, and the reset by a command.
-ghost use Rattle.std.specs.Prelude.{◌≡◌, [], ◌∷◌, replicate};
+ghost use Rattle.std.specs.Prelude.{◌≡◌, [], ◌∷◌};
 ghost use Rattle.ec_model.specs.Commands.{Sysinfo, Reboot};
 ghost use Rattle.ec_model.specs.Bodies.{reboot_ask, sysinfo_say};
 ghost use Rattle.ec_examples.specs.Flashes.{e64, g64, with_image};
