@@ -158,7 +158,7 @@ fn steps_lpc<W: Wire>(w: &mut W, packet: &Packet, reply: &mut Packet) -> Raw
     requires room { 1500 ≤ (W.view w.old).spare }
     requires short { length packet.now ≤ 256 }
     ensures sends { Sends LpcKind packet.now (heard_of result reply.new) (W.view w.old) (W.view w.new) }
-    ensures room { (W.view w.old).spare ≤ (W.view w.new).spare + 1200 }
+    ensures room { (W.view w.old).spare ≤ (W.view w.new).spare + 531 }
 {
     if !ask_lpc(w, packet) {
         return Raw::Silent;
@@ -182,7 +182,7 @@ pub fn send_lpc<W: Wire>(w: &mut W, packet: &Packet, reply: &mut Packet) -> Raw
     ensures exchange { ExchangesWhereCalm packet.now (heard_of result reply.new) (W.view w.old) (W.view w.new) }
     ensures cause { CausedWhereCalm (heard_of result reply.new) (W.view w.old) (W.view w.new) }
     ensures rests { RestsBehind (W.view w.old) (W.view w.new) }
-    ensures room { (W.view w.old).spare ≤ (W.view w.new).spare + 1200 }
+    ensures room { (W.view w.old).spare ≤ (W.view w.new).spare + 531 }
 {
     steps_lpc(w, packet, reply)
 }
