@@ -14,7 +14,7 @@ use crate::boot::{says_all, says_ro};
 use ec_model::{HashView, Live};
 use ec_types::{ImageCopy, ResetCause};
 use flash_ctl::{Ctl, CtlErr};
-use flash_dev::{Failed, FlashDev};
+use flash_dev::{Failed, FlashDev, Geometry};
 use std::marker::Model;
 
 /// Off.
@@ -72,7 +72,7 @@ fn read_stored<F: FlashDev>(ctl: &mut Ctl<F>, bytes: &mut [u8]) -> bool
     ensures locks { ctl.new.locks ≡ ctl.old.locks }
     ensures bytes { IsFalse result → IfSome ctl.old.device.held (λ flash. bytes.new ≡ stored_bytes flash) }
 {
-    let size = ctl.size();
+    let size = ctl.geometry().size();
     ctl.read(size / 2 - 4096, bytes).is_err()
 }
 
@@ -83,7 +83,7 @@ fn lock<F: FlashDev>(ctl: &mut Ctl<F>, ro: bool, all: bool)
     ensures locks { ctl.new.locks ≡ locks_of ctl.old.device.extent ro all }
 {
     ctl.reset();
-    let size = ctl.size();
+    let size = ctl.geometry().size();
     if all {
         ctl.lock(0, size / 4096);
     } else if ro {
@@ -133,7 +133,10 @@ impl<F: FlashDev> Off<F> {
         ensures pin { result.pin ≡ pin }
     {
         let Off { flash } = self;
-        boot(Ctl::new(flash), pin, ResetCause::PowerOn)
+        match Geometry::new(flash.size()) {
+            Some(geometry) => boot(Ctl::new(flash, geometry), pin, ResetCause::PowerOn),
+            None => unreachable!(),
+        }
     }
 
     pub fn into_flash(self) -> F
@@ -195,7 +198,7 @@ impl<F: FlashDev> InRo<F> {
         ensures allowed { IsTrue (is_flash_size result) }
         ensures whole { IfSome self.now.device.held (λ bytes. length bytes ≡ self.now.device.extent) }
     {
-        self.ctl.size()
+        self.ctl.geometry().size()
     }
 
     pub fn read(&mut self, at: u32, out: &mut [u8]) -> Result<(), Failed>

@@ -4,6 +4,8 @@ use Rattle.flash_dev.specs.Told.{Changes}
 use Rattle.flash_dev.specs.Device.{DeviceView}
 use Rattle.ec_types.specs.declared.bus.BusKind.{BusKind}
 use Rattle.ec_model.specs.declared.event.Event.{Event}
+use Rattle.ec_model.specs.declared.event.Event.TheVariants.{Access as AccessEvent}
+use Rattle.ec_model.specs.HostCalls.{on_after_event}
 use Rattle.ec_model.specs.declared.event.Hurt.{Hurt}
 use Rattle.ec_model.specs.declared.event.Hurt.TheVariants.{Whole, Failed, Cut}
 use Rattle.ec_model.specs.Bus.{BusState, due_now}
@@ -107,3 +109,14 @@ pub record IsSpent (hurt : Hurt) (old new : DeviceView) : Type 0 where
   pub faults : old.faults ≤ new.faults
   pub cuts : old.cuts ≤ new.cuts
   pub rose : HurtRose hurt old new
+
+-- an event that is no access answers 0
+abbrev pub IsSilent : Event → ℕ → Type 0
+IsSilent (AccessEvent access) answer = ⊤
+IsSilent other answer = answer ≡ 0
+
+-- whether the controller is on behind an event, by what a flash call did in it and whether it was on before
+abbrev pub on_behind : Hurt → Event → Bool → Bool
+on_behind Cut event before = false
+on_behind Whole event before = on_after_event event before
+on_behind Failed event before = on_after_event event before

@@ -108,7 +108,7 @@ row_of-keeps : (core : Core) (limit : ℕ) (result : Result Admitted ℕ) → ((
 row_of-keeps core limit (Err status) spelled = keeps-self core
 row_of-keeps core limit (Ok found) spelled = row-keeps core limit found.command found.version found.body (spelled found refl)
 
-handled-keeps : (core : Core) (limit : ℕ) (bytes : List ℕ) → KeepsOutcome core (handled core limit bytes)
+pub handled-keeps : (core : Core) (limit : ℕ) (bytes : List ℕ) → KeepsOutcome core (handled core limit bytes)
 handled-keeps core limit bytes = row_of-keeps core limit (asked core bytes) (spelled_from core (framing bytes))
 
 erased-keeps : (core : Core) (job : EraseJob) → IsSafe core (EraseNext job) → Keeps core (block_erased job core)

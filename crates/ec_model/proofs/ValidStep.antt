@@ -19,7 +19,6 @@ use Rattle.ec_model.specs.Handle.{Admitted, admitted_by, admitted_from, asked, r
 use Rattle.ec_model.proofs.GuardLemmas.{AllAbove}
 use Rattle.ec_model.proofs.GuardSteps.{if_cases, and_parts, accepted, same_size, pieces-above}
 use Rattle.ec_model.proofs.GuardWork.{passed, ok-injective, spelled_from}
-use Rattle.ec_model.proofs.GuardStep.{size_bound}
 use Rattle.ec_model.proofs.ValidRows.{IsCoreValid, ValidOutcome, row-valid, resend-valid, protect-inside}
 use Rattle.ec_model.proofs.ShortRows.{IsShort, row-short}
 

@@ -1,5 +1,5 @@
 -- The host's sequences on the three buses: what it does for one packet, each next access by the bytes that it got so far.
-use Rattle.std.specs.Prelude.{◌≡◌, ◌≢◌, ◌≤◌, ℕ, zero, suc, ◌+◌, Bool, true, false, ◌&&◌, ◌==◌, nat_le, if◌then◌else◌, List, [], ◌∷◌, ◌++◌, length, take, replicate, slice_index, IsTrue, Option, Some, None}
+use Rattle.std.specs.Prelude.{◌≡◌, ◌≢◌, ◌≤◌, ℕ, zero, suc, ◌+◌, Bool, true, false, not, ◌&&◌, ◌==◌, nat_le, if◌then◌else◌, List, [], ◌∷◌, ◌++◌, length, take, replicate, slice_index, IsTrue, Option, Some, None}
 use Rattle.ec_types.specs.declared.bus.BusKind.{BusKind}
 use Rattle.ec_types.specs.declared.bus.BusKind.TheVariants.{Lpc, I2c, Spi}
 use Rattle.ec_model.specs.declared.event.Access.{Access}
@@ -194,10 +194,9 @@ pub record SpiAsked (packet : List ℕ) (calls : List HostCall) : Type 0 where
   pub each : length gots ≡ length packet
   pub made : calls ≡ Did SpiSelect selected ∷ spi_writes packet gots
 
--- what the host hears where no reply begins
-abbrev pub heard_without : Option Bool → ℕ → Heard
-heard_without (Some true) last = if last == 0xFF then Silent else Bad
-heard_without other last = Silent
+-- what the host hears where no reply begins: nothing, where the controller says so or makes it wait to the end
+abbrev pub heard_without : Bool → ℕ → Heard
+heard_without ready last = if ready && not (last == 0xFF) then Bad else Silent
 
 -- SPI: no reply began
 pub record SpiUnserved (packet : List ℕ) (calls : List HostCall) (heard : Heard) : Type 0 where
@@ -209,7 +208,7 @@ pub record SpiUnserved (packet : List ℕ) (calls : List HostCall) (heard : Hear
   pub polled : poll_end is_spi_waiting 5 answers ≡ Some ready
   pub no_reply : last_byte answers ≢ 0xEC
   pub made : calls ≡ first ++ spaced_reads (SpiByte 0) answers ++ Did SpiDeselect stopped ∷ []
-  pub heard_is : heard ≡ heard_without (Some ready) (last_byte answers)
+  pub heard_is : heard ≡ heard_without ready (last_byte answers)
 
 -- whether the host reads on behind a header on SPI
 abbrev pub spi_reads_on : List ℕ → Bool

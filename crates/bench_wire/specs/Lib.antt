@@ -1,0 +1,2 @@
+pub mod BenchView
+pub mod Adding

@@ -1,0 +1,37 @@
+// The bench as the host sees it.
+ghost use Rattle.bench_wire.specs.BenchView.{wire_view};
+
+use crate::Bench;
+use ec_model::{Access, Event};
+use ec_types::BusKind;
+use ec_wire::{Bus, Wire};
+use flash_dev::FlashDev;
+use std::alloc::AllocError;
+
+impl<B: Bus + Drop, F: FlashDev> Wire for Bench<B, F> {
+    ghost view = { wire_view B.bus };
+
+    fn kind(&self) -> BusKind {
+        self.ec.kind()
+    }
+
+    fn power(&self) -> bool {
+        self.ec.is_on()
+    }
+
+    fn access(&mut self, a: Access) -> u8 {
+        self.step(Event::Access { a })
+    }
+
+    fn wait(&mut self) {
+        let _ = self.step(Event::Tick);
+    }
+
+    fn reserve(&mut self, n: usize) -> Result<(), AllocError> {
+        self.journal.reserve(n)
+    }
+
+    fn spare(&self) -> usize {
+        self.journal.spare()
+    }
+}

@@ -1,0 +1,61 @@
+-- An exchange on LPC is a send.
+use Rattle.std.proofs.Common.{◌≡◌, refl, sym, ap, ◌∙◌, ℕ, suc, ◌+◌, true, List, [], ◌∷◌, ◌++◌, map, length, slice_index, append_assoc}
+use Rattle.ec_types.specs.declared.bus.BusKind.TheVariants.{Lpc}
+use Rattle.ec_model.specs.declared.event.Access.TheVariants.{PortOut, PortIn}
+use Rattle.ec_model.specs.declared.event.Event.{Event}
+use Rattle.ec_model.specs.declared.event.Event.TheVariants.{Access, Tick, Reset, Power, Pin}
+use Rattle.ec_model.specs.declared.event.Entry.{Entry}
+use Rattle.ec_model.specs.declared.event.Entry.TheVariants.{Step, Mark}
+use Rattle.ec_model.specs.HostCalls.{HostCall, Did, Waited, calls_of, call_before}
+use Rattle.ec_model.specs.Send.{Heard, Reply, Send, LpcWasServed, is_all_read, reads_on, heard_if, heard_with, port_writes, port_reads, spaced_reads, status_in}
+use Rattle.ec_examples.specs.Entries.{plain, written_ports, read_ports, lpc_asked, lpc_exchange, waited}
+
+-- the calls of one entry, before others
+call-append : (event : Event) (meant seen : ℕ) (calls more : List HostCall) → call_before event meant seen (calls ++ more) ≡ call_before event meant seen calls ++ more
+call-append (Access access) meant seen calls more = refl
+call-append Tick meant seen calls more = refl
+call-append other meant seen calls more = refl
+
+calls_of-append : (first second : List Entry) → calls_of (first ++ second) ≡ calls_of first ++ calls_of second
+calls_of-append [] second = refl
+calls_of-append (Step event answer meant seen hurt ∷ first) second =
+    ap (call_before event meant seen) (calls_of-append first second) ∙ call-append event meant seen (calls_of first) (calls_of second)
+calls_of-append (Mark line ∷ first) second = calls_of-append first second
+
+calls_of-written : (port : ℕ) (bytes : List ℕ) → calls_of (written_ports port bytes) ≡ port_writes port bytes (map (λ byte. 0) bytes)
+calls_of-written port [] = refl
+calls_of-written port (byte ∷ bytes) = ap (λ (calls : List HostCall). Did (PortOut port byte) 0 ∷ calls) (calls_of-written (port + 1) bytes)
+
+calls_of-read : (port : ℕ) (bytes : List ℕ) → calls_of (read_ports port bytes) ≡ port_reads port bytes
+calls_of-read port [] = refl
+calls_of-read port (byte ∷ bytes) = ap (λ (calls : List HostCall). Did (PortIn port) byte ∷ calls) (calls_of-read (port + 1) bytes)
+
+length-zeros : (bytes : List ℕ) → length {A = ℕ} (map (λ byte. 0) bytes) ≡ length bytes
+length-zeros [] = refl
+length-zeros (byte ∷ bytes) = ap suc (length-zeros bytes)
+
+-- the calls of what is sent
+calls_of-asked : (request : List ℕ) → calls_of (lpc_asked request) ≡ spaced_reads status_in (0 ∷ []) ++ port_writes 0x800 request (map (λ byte. 0) request) ++ Did (PortOut 0x204 0xDA) 0 ∷ []
+calls_of-asked request =
+    ap (λ (calls : List HostCall). Did status_in 0 ∷ calls)
+    (calls_of-append (written_ports 0x800 request) (written_ports 0x204 (0xDA ∷ []))
+    ∙ ap (λ (calls : List HostCall). calls ++ Did (PortOut 0x204 0xDA) 0 ∷ []) (calls_of-written 0x800 request))
+
+-- a response that is read whole, and heard
+pub lpc_exchange-sent : (request response : List ℕ) → is_all_read (reads_on 248 response) response ≡ true
+    → Reply response ≡ heard_if (reads_on 248 response) (heard_with (slice_index response 2) response)
+    → Send Lpc (lpc_exchange request response) request (Reply response)
+lpc_exchange-sent request response whole heard =
+    LpcWasServed (record {
+      first = calls_of (lpc_asked request);
+      statuses = 1 ∷ [];
+      outcome = slice_index response 2;
+      bytes = response;
+      asked = record { statuses = 0 ∷ []; gots = map (λ byte. 0) request; got = 0; idle = refl; each = length-zeros request; made = calls_of-asked request };
+      idle = refl;
+      whole = whole;
+      made = calls_of-append (lpc_asked request) (waited ∷ plain (Access (PortIn 0x204)) 1 ∷ plain (Access (PortIn 0x200)) (slice_index response 2) ∷ read_ports 0x800 response)
+          ∙ ap (λ (calls : List HostCall). calls_of (lpc_asked request) ++ Waited ∷ Did status_in 1 ∷ Did (PortIn 0x200) (slice_index response 2) ∷ calls) (calls_of-read 0x800 response)
+          ∙ sym (append_assoc (calls_of (lpc_asked request)) (Waited ∷ Did status_in 1 ∷ []) (Did (PortIn 0x200) (slice_index response 2) ∷ port_reads 0x800 response));
+      heard_is = heard;
+    })

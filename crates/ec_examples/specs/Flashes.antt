@@ -1,0 +1,24 @@
+-- The flashes and the image of the examples.
+use Rattle.std.specs.Prelude.{ℕ, List, [], ◌∷◌, ◌++◌, replicate}
+use Rattle.flash_dev.specs.Flash.{overwritten}
+
+-- a flash of 65,536 bytes, all erased
+abbrev pub e64 : List ℕ
+e64 = replicate 65536 0xFF
+
+-- the same with the lock of RO at boot stored
+abbrev pub g64 : List ℕ
+g64 = overwritten 0x7000 (0x50 ∷ 0x53 ∷ 0x54 ∷ 0x31 ∷ 0x01 ∷ 0 ∷ 0 ∷ 0 ∷ []) e64
+
+-- the same with both locks at boot stored
+abbrev pub a64 : List ℕ
+a64 = overwritten 0x7000 (0x50 ∷ 0x53 ∷ 0x54 ∷ 0x31 ∷ 0x41 ∷ 0 ∷ 0 ∷ 0 ∷ []) e64
+
+-- an image of 1,000 bytes for RW: its reset vector is 0x8100, and its version `v2`
+abbrev pub image_v2 : List ℕ
+image_v2 =
+    (0 ∷ 0 ∷ 0 ∷ 0 ∷ 0x00 ∷ 0x81 ∷ 0x00 ∷ 0x00 ∷ 0x76 ∷ 0x32 ∷ []) ++ replicate 30 0 ++ replicate 960 0x5A
+
+-- a flash with that image in RW
+abbrev pub with_image : List ℕ → List ℕ
+with_image flash = overwritten 0x8000 image_v2 flash

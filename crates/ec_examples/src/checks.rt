@@ -1,0 +1,38 @@
+// The checks before a command's row: framing, command, version, pending erase, body.
+ghost use Rattle.std.specs.Prelude.{◌≡◌, [], ◌∷◌, ◌++◌, replicate};
+ghost use Rattle.ec_model.specs.Commands.{line, FlashErase, Comms, Resend};
+ghost use Rattle.ec_model.specs.Packet.{request_packet};
+ghost use Rattle.ec_model.specs.Bodies.{hello_ask};
+ghost use Rattle.ec_model.specs.Handle.{asked, admitted_by};
+ghost use Rattle.ec_model.specs.Step.{with_job};
+ghost use Rattle.ec_examples.specs.Flashes.{e64};
+ghost use Rattle.ec_examples.specs.Cores.{on};
+
+/// The checks come in this order: each request here fails the one that it is named for and all behind it.
+pub fn checks_in_their_order()
+    ensures framing { asked (on e64) (0x03 ∷ 0x00 ∷ 0xFF ∷ 0xFF ∷ 0x07 ∷ 0x00 ∷ 0x00 ∷ 0x00 ∷ []) ≡ Err 7 }
+    ensures command { asked (on e64) (request_packet 0xFFFF 7 []) ≡ Err 1 }
+    ensures version { admitted_by (with_job (Some (record { next = 8; left = 8 })) 9 (on e64))
+        (record { command = 0x13; version = 1; body = [] }) (Some (line 0x13 FlashErase 1)) ≡ Err 6 }
+    ensures erase { admitted_by (with_job (Some (record { next = 8; left = 8 })) 9 (on e64))
+        (record { command = 0x13; version = 0; body = [] }) (Some (line 0x13 FlashErase 1)) ≡ Err 16 }
+    ensures body { admitted_by (on e64) (record { command = 0x13; version = 0; body = [] }) (Some (line 0x13 FlashErase 1)) ≡ Err 3 }
+    ensures passed { admitted_by (on e64) (record { command = 0x13; version = 0; body = replicate 8 0 }) (Some (line 0x13 FlashErase 1)) ≡
+        Ok (record { command = FlashErase; version = 0; body = replicate 8 0 }) }
+{}
+
+/// While an erase is pending a HELLO is told so, and two commands are answered all the same.
+pub fn commands_while_an_erase_is_pending()
+    ensures hello { asked (with_job (Some (record { next = 8; left = 8 })) 9 (on e64)) (request_packet 1 0 (hello_ask 5)) ≡ Err 16 }
+    ensures comms { admitted_by (with_job (Some (record { next = 8; left = 8 })) 9 (on e64))
+        (record { command = 0x09; version = 0; body = [] }) (Some (line 0x09 Comms 1)) ≡ Ok (record { command = Comms; version = 0; body = [] }) }
+    ensures resend { admitted_by (with_job (Some (record { next = 8; left = 8 })) 9 (on e64))
+        (record { command = 0xDB; version = 0; body = [] }) (Some (line 0xDB Resend 1)) ≡ Ok (record { command = Resend; version = 0; body = [] }) }
+{}
+
+/// A body's length is just its row's: HELLO takes 4 bytes.
+pub fn bodies_of_another_length()
+    ensures short { asked (on e64) (request_packet 1 0 (1 ∷ 2 ∷ 3 ∷ [])) ≡ Err 3 }
+    ensures long { asked (on e64) (request_packet 1 0 (1 ∷ 2 ∷ 3 ∷ 4 ∷ 5 ∷ [])) ≡ Err 3 }
+    ensures write { asked (on e64) (request_packet 0x12 1 (replicate 4 0 ++ 8 ∷ replicate 7 0)) ≡ Err 3 }
+{}

@@ -1,0 +1,55 @@
+//! Worked examples of the definitions: each function's contract is one, and each of its values was worked out by hand
+//! from the tables of the protocol.
+#![tactic(auto)]
+
+mod checks;
+mod erases;
+mod flash;
+mod hash;
+mod i2c;
+mod interrupted;
+mod jumps;
+mod lpc;
+mod packets;
+mod protection;
+mod questions;
+mod spi;
+
+pub use checks::{
+    bodies_of_another_length, checks_in_their_order, commands_while_an_erase_is_pending,
+};
+pub use erases::{erase_of_eight_blocks, responses_with_no_data, saved_status_is_told_once};
+pub use flash::{
+    erases_that_are_asked, reads_that_are_refused, two_writes_leave_the_and_of_both,
+    write_in_pieces, writes_that_are_refused,
+};
+pub use hash::{
+    hash_of_1025_bytes, hashes_over_a_jump, hashes_that_are_dropped, hashes_that_are_refused,
+    ranges_that_are_hashed,
+};
+pub use i2c::{
+    hello_on_i2c, last_byte_kept_on_i2c, other_bytes_on_i2c, short_request_on_i2c,
+    untaken_accesses_on_i2c,
+};
+pub use interrupted::{
+    cut_inside_a_write_of_three_pieces, cut_inside_the_stored_bits, cut_of_an_access, erase_that_fails,
+    failure_inside_a_write_of_three_pieces, reads_that_fail, torn_range,
+};
+pub use jumps::{
+    jump_to_an_erased_image, jumps_of_a_locked_controller, jumps_of_an_open_controller,
+    other_reboots,
+};
+pub use lpc::{
+    bad_sum_on_lpc, hello_that_wraps_on_lpc, other_bytes_on_lpc, rest_of_the_window_is_kept_on_lpc,
+    status_bytes_on_lpc, truncated_data_on_lpc,
+};
+pub use packets::{framing_tests_in_their_order, hello_is_spelled, write_body_is_spelled};
+pub use protection::{
+    bits_are_stored_by_two_operations, boot_that_cannot_read, boots_by_what_is_stored,
+    lock_at_boot_is_set, locks_are_only_set, locks_need_the_lock_at_boot, pin_that_is_off,
+};
+pub use questions::{
+    fixed_answers, pending_erase_is_shown, regions, tests_of_the_protocol, versions_of_commands,
+    versions_of_the_images,
+};
+pub use spi::{deselected_spi, hello_on_spi, too_long_on_spi};

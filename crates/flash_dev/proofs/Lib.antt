@@ -1,0 +1,2 @@
+pub mod Programming
+pub mod Overwriting

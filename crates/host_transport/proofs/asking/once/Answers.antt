@@ -1,0 +1,26 @@
+use Rattle.std.proofs.Common.{sym, ap, ◌∙◌, Bool}
+use Rattle.host_transport.specs.Once.{ended, heard_as, said_by, Silent}
+use Rattle.ec_model.specs.Packet.{response_view}
+use Rattle.host_framing.specs.Heard.{heard_of}
+use Rattle.host_transport.proofs.SendLaws.{reply-is-response}
+use Rattle.host_transport.proofs.OnceLaws.{asks-once}
+use Rattle.host_transport.proofs.asking.once.Goals as goal
+
+pub read_reply-requires : goal.read_reply-requires
+read_reply-requires g c = reply-is-response _ _ _ _ _ c.in-Reply.ensures.sends
+
+pub returns-then-not-power-2 : goal.returns-then-not-power-2
+returns-then-not-power-2 g c =
+    let heard = heard_of c.send_lpc-raw.result c.send_lpc-raw.new.reply in
+    asks-once _ _ _ heard _ _ _ c.in-Ok.ensures.spelled c.requires.bus (sym c.power.ensures.power ∙ c.if-not-power.false) c.send_lpc-raw.ensures.sends
+    (ap (λ (on : Bool). ended on (heard_as c.args.want heard)) (sym c.if-not-power-2.true ∙ c.power-2.ensures.power))
+
+pub returns-in-Reply : goal.returns-in-Reply
+returns-in-Reply g c =
+    asks-once _ _ _ _ _ _ _ c.in-Ok.ensures.spelled c.requires.bus (sym c.power.ensures.power ∙ c.if-not-power.false) c.in-Reply.ensures.sends
+    (c.read_reply.ensures ∙ ap (λ (on : Bool). ended on (said_by c.args.want (response_view c.send_lpc-raw.new.reply))) (sym c.if-not-power-2.false ∙ c.power-2.ensures.power))
+
+pub returns-in-Silent : goal.returns-in-Silent
+returns-in-Silent g c =
+    asks-once _ _ _ _ _ _ _ c.in-Ok.ensures.spelled c.requires.bus (sym c.power.ensures.power ∙ c.if-not-power.false) c.in-Silent.ensures.sends
+    (ap (λ (on : Bool). ended on Silent) (sym c.if-not-power-2.false ∙ c.power-2.ensures.power))

@@ -1,0 +1,67 @@
+// One request, sent once. The bus is LPC until the others are built.
+ghost use Rattle.std.specs.Prelude.{◌≡◌, ◌≤◌, ◌+◌, length, IsTrue};
+ghost use Rattle.ec_types.specs.declared.bus.BusKind.TheVariants.{Lpc as LpcKind};
+ghost use Rattle.ec_model.specs.Packet.{request_packet, is_response, response_view};
+ghost use Rattle.host_runs.specs.Served.{IsPlain};
+ghost use Rattle.host_transport.specs.Once.{AsksOnce, said_by};
+ghost use Rattle.host_transport.specs.Ends.{ending_of};
+
+use crate::ending::Once;
+use ec_packet::{Packet, TooLong, decode_response, encode_request};
+use ec_types::limit_of;
+use ec_wire::Wire;
+use host_framing::{Raw, send_lpc};
+
+/// Sends a request once. At a status, `reply` is the body of the reply; a success has `want` bytes. It takes at most
+/// 1,500 entries of the wire's room.
+pub fn once<W: Wire>(
+    w: &mut W,
+    command: u16,
+    version: u8,
+    body: &[u8],
+    want: usize,
+    reply: &mut Packet,
+) -> Once
+    requires bus { (W.view w.old).bus ≡ LpcKind }
+    requires room { 1500 ≤ (W.view w.old).spare }
+    requires short { 8 + length body.now ≤ 256 }
+    requires plain { IsPlain (request_packet command version body.now) }
+    ensures { AsksOnce (request_packet command version body.now) want (ending_of result reply.new) (W.view w.old) (W.view w.new) }
+{
+    if !w.power() {
+        return Once::NoPower;
+    }
+    let mut packet = Packet::new();
+    match encode_request(command, version, body, limit_of(w.kind()), &mut packet) {
+        Ok(()) => {}
+        Err(TooLong) => unreachable!(),
+    }
+    let raw = send_lpc(w, &packet, reply);
+    if !w.power() {
+        return Once::NoPower;
+    }
+    match raw {
+        Raw::Reply => read_reply(want, reply),
+        Raw::Bad => Once::Bad,
+        Raw::Silent => Once::Silent,
+    }
+}
+
+// What a reply says; its body takes its place.
+fn read_reply(want: usize, reply: &mut Packet) -> Once
+    requires { IsTrue (is_response reply.old) }
+    ensures { ending_of result reply.new ≡ said_by want (response_view reply.old) }
+{
+    match decode_response(reply.as_slice()) {
+        Ok(response) => {
+            let status = response.status;
+            *reply = response.body;
+            if status == 0 && reply.len() != want {
+                Once::Bad
+            } else {
+                Once::Status(status)
+            }
+        }
+        Err(_) => Once::Bad,
+    }
+}
