@@ -1,5 +1,5 @@
 -- Undisturbed calls of a wire.
-use Rattle.std.proofs.Common.{◌≡◌, refl, sym, ap, ◌∙◌, subst, ℕ, ◌≤◌, Bool, true, false, List, [], ◌∷◌, length, drop, map, Option, Some, None}
+use Rattle.std.proofs.Common.{◌≡◌, refl, sym, ap, ◌∙◌, subst, ℕ, ◌≤◌, Bool, true, false, List, [], ◌∷◌, length, drop, Option, Some, None}
 use Rattle.std.specs.List.{list_any}
 use Rattle.std.proofs.lemmas.List.{drop_at}
 use Rattle.flash_dev.specs.Told.{Changes}
@@ -11,6 +11,7 @@ use Rattle.ec_model.specs.declared.event.Entry.{Entry}
 use Rattle.ec_model.specs.declared.event.Entry.TheVariants.{Step, Mark}
 use Rattle.ec_model.specs.declared.event.Hurt.{Hurt}
 use Rattle.ec_model.specs.declared.event.Hurt.TheVariants.{Whole}
+use Rattle.ec_model.specs.Packet.{response_packet}
 use Rattle.ec_model.specs.Upset.{is_upset, is_world_event, IsUndisturbed}
 use Rattle.ec_model.specs.HostCalls.{HostCall, calls_of, on_after, on_after_entry}
 use Rattle.ec_model.specs.Run.{IsRun}
@@ -20,14 +21,13 @@ use Rattle.ec_model.specs.Handle.{handled}
 use Rattle.ec_model.specs.Send.{Heard, Silent}
 use Rattle.ec_model.specs.Syncable.{settled}
 use Rattle.ec_wire.specs.Calls.{WireView, Grows, Agrees}
-use Rattle.ec_wire.specs.Quiet.{quiet_entry}
-use Rattle.ec_wire.proofs.Calm.{or-false, calm_entry, undisturbed, determined}
+use Rattle.ec_wire.proofs.Calm.{or-false, calm_entry, undisturbed}
 use Rattle.host_runs.specs.Calm.{CallsLead}
-use Rattle.host_runs.specs.Exchange.{ShowsIdle}
+use Rattle.host_runs.specs.Exchange.{ShowsIdle, IsExchange}
 use Rattle.host_runs.specs.Served.{IsPlain, Serves, Settles}
 use Rattle.host_runs.proofs.CalmRun.{calm_lead}
 use Rattle.host_runs.proofs.LpcSend.{lpc-calm, lpc-quiet}
-use Rattle.host_runs.proofs.LpcExchange.{lpc-exchange}
+use Rattle.host_runs.proofs.LpcExchange.{exchange-run}
 use Rattle.host_runs.proofs.LpcEnds.{lpc-ends}
 use Rattle.host_runs.proofs.OffLead.{lpc-off}
 use Rattle.host_runs.proofs.Rests.{ends-rest}
@@ -150,12 +150,8 @@ lpc-caused packet heard old new kind plain short sends =
 pub lpc-exchanged : (packet : List ℕ) (heard : Heard) (old new : WireView) → IsPlain packet → length packet ≤ 256 → Sends Lpc packet heard old new → ExchangesWhereCalm packet heard old new
 lpc-exchanged packet heard old new plain short sends =
     changes-map _ _ old.table new.table (λ (told left : Table) (run : IsRun told sends.added left) (agrees : Agrees old.bus old.on told) (calm : IsUndisturbed (since old new)) (awake : Awake) (status : ℕ) (after : Core) (result : ℕ) (body : List ℕ) (on : told.power ≡ On awake) (shows : ShowsIdle status awake.bus) (same : handled (core_of told awake) 256 packet ≡ Answered after result body).
-    let exchanges = lpc-exchange told awake status packet (calls_of sends.added) heard left after result body agrees.valid on shows plain short sends.sent (lead-since sends.added old new told left sends.grows run calm) same in
-    let entries = since-added sends.added old new sends.grows in
-    record {
-      entries = entries ∙ determined sends.added sends.grows.steps (added-calm sends.added old new sends.grows calm) ∙ ap (λ (calls : List HostCall). map quiet_entry calls) exchanges.calls_are;
-      exchanges = rw entries exchanges;
-    }) sends.grows.run
+    subst (λ (entries : List Entry). IsExchange status packet (response_packet result body) after entries heard left) (sym (since-added sends.added old new sends.grows))
+    (exchange-run told awake status packet sends.added heard left after result body agrees.valid on shows plain short sends.sent run (added-calm sends.added old new sends.grows calm) sends.grows.steps same)) sends.grows.run
 
 -- LPC: an undisturbed poll
 pub lpc-settles : (old new : WireView) → old.bus ≡ Lpc → Quiets Lpc old new → SettlesWhereCalm old new

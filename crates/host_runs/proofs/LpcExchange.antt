@@ -1,20 +1,28 @@
 -- An undisturbed send from an LPC bus that is not busy, call by call.
-use Rattle.std.proofs.Common.{◌≡◌, refl, sym, ap, ◌∙◌, subst, ℕ, ◌≤◌, Bool, true, false, List, [], ◌∷◌, ◌++◌, length, replicate, Some}
+use Rattle.std.proofs.Common.{◌≡◌, refl, sym, ap, ◌∙◌, subst, ℕ, ◌≤◌, Bool, true, false, List, [], ◌∷◌, ◌++◌, length, replicate, map, Some}
+use Rattle.std.specs.List.{list_all}
 use Rattle.ec_types.specs.declared.bus.BusKind.TheVariants.{Lpc}
 use Rattle.ec_model.specs.declared.event.Access.TheVariants.{PortOut, PortIn}
+use Rattle.ec_model.specs.declared.event.Entry.{Entry}
 use Rattle.ec_model.specs.Packet.{response_packet}
 use Rattle.ec_model.specs.Bus.{BusState, OnLpc, OnI2c, OnSpi, is_busy, kind_of, low_status}
-use Rattle.ec_model.specs.HostCalls.{HostCall, Did}
-use Rattle.ec_model.specs.Send.{Heard, poll_end, waited_reads, spaced_reads, status_in, port_reads, port_writes, LpcServed, LpcSend, LpcWasBlocked, LpcWasUnserved, LpcWasServed}
+use Rattle.ec_model.specs.HostCalls.{HostCall, Did, calls_of}
+use Rattle.ec_model.specs.Send.{Heard, poll_end, waited_reads, spaced_reads, status_in, port_reads, port_writes, LpcServed, Send, LpcSend, LpcWasBlocked, LpcWasUnserved, LpcWasServed}
 use Rattle.ec_model.specs.Table.{Table, Awake, On, Core, Valid, core_of, table_of}
 use Rattle.ec_model.specs.Answer.{Outcome, Answered}
 use Rattle.ec_model.specs.Handle.{handled, asked}
+use Rattle.ec_model.specs.Run.{IsRun}
+use Rattle.ec_model.specs.Upset.{IsUndisturbed}
 use Rattle.ec_model.proofs.ShortRows.{IsShort}
 use Rattle.ec_model.proofs.ValidRows.{IsCoreValid}
 use Rattle.ec_model.proofs.ValidStep.{row_of-short}
+use Rattle.ec_wire.specs.Calls.{is_wire_step}
+use Rattle.ec_wire.specs.Quiet.{quiet_entry}
+use Rattle.ec_wire.proofs.Calm.{determined}
 use Rattle.host_runs.specs.Calm.{CallsLead}
 use Rattle.host_runs.specs.Served.{IsPlain}
-use Rattle.host_runs.specs.Exchange.{ShowsIdle, lpc_exchange, Exchanges}
+use Rattle.host_runs.specs.Exchange.{ShowsIdle, lpc_exchange, Exchanges, IsExchange}
+use Rattle.host_runs.proofs.CalmRun.{calm_lead}
 use Rattle.host_runs.proofs.LpcLead.{lpc, ready-lead}
 use Rattle.host_runs.proofs.LpcSend.{served_calls, answers-by, hear-lead, bus-facts, as-table, lead-at, lpc-calm, regroup}
 
@@ -93,3 +101,10 @@ lpc-exchange table awake status packet calls heard new after result body valid o
     let table_is = as-table table awake on facts.kind in
     by-bus (core_of table awake) after awake.bus status result body packet calls heard new (subst (λ (t : Table). Valid t) table_is valid)
     (fits-by (core_of table awake) after packet result body facts.core same) shows plain short same served (lead-at table awake calls new table_is lead)
+
+-- the same of the entries that it added
+pub exchange-run : (table : Table) (awake : Awake) (status : ℕ) (packet : List ℕ) (added : List Entry) (heard : Heard) (new : Table) (after : Core) (result : ℕ) (body : List ℕ) → Valid table → table.power ≡ On awake → ShowsIdle status awake.bus → IsPlain packet → length packet ≤ 256 →
+    Send Lpc added packet heard → IsRun table added new → IsUndisturbed added → list_all is_wire_step added ≡ true → handled (core_of table awake) 256 packet ≡ Answered after result body → IsExchange status packet (response_packet result body) after added heard new
+exchange-run table awake status packet added heard new after result body valid on shows plain short sent run calm steps same =
+    let exchanges = lpc-exchange table awake status packet (calls_of added) heard new after result body valid on shows plain short sent (calm_lead table added new calm run) same in
+    record { entries = determined added steps calm ∙ ap (λ (calls : List HostCall). map quiet_entry calls) exchanges.calls_are; exchanges = exchanges }
