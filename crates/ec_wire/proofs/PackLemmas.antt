@@ -68,10 +68,11 @@ hurt-small Whole = omega arith
 hurt-small Failed = omega arith
 hurt-small Cut = omega arith
 
--- the parts of a code
+-- the event of a code
 code-event : (event hurt : ℕ) → hurt < 4 → (4 * event + hurt) / 4 ≡ event
 code-event event hurt small = omega arith
 
+-- the Hurt of a code
 code-hurt : (event hurt : ℕ) → hurt < 4 → (4 * event + hurt) % 4 ≡ hurt
 code-hurt event hurt small = omega arith
 

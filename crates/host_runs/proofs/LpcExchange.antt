@@ -38,6 +38,7 @@ record IsOnce (table : Table) (status : ℕ) (statuses : List ℕ) (calls : List
   pub once : statuses ≡ status ∷ []
   pub lead : CallsLead table calls new
 
+-- a poll of a bus that is not busy sees its status once
 once-idle : (core : Core) (window : List ℕ) (status outcome : ℕ) (statuses : List ℕ) (ready : Bool) (calls : List HostCall) (new : Table) → is_busy status ≡ false → poll_end is_busy 5 statuses ≡ Some ready →
     CallsLead (table_of core (lpc window status outcome)) (spaced_reads status_in statuses ++ calls) new → IsOnce (table_of core (lpc window status outcome)) status statuses calls new
 once-idle core window status outcome [] ready calls new idle polled lead = absurd (cc)
@@ -68,6 +69,7 @@ served-exchange core after window status outcome result body packet calls heard 
 fits-by : (core after : Core) (packet : List ℕ) (result : ℕ) (body : List ℕ) → IsCoreValid core → handled core 256 packet ≡ Answered after result body → length body ≤ 248
 fits-by core after packet result body valid same = subst (λ (outcome : Outcome). IsShort outcome) same (row_of-short core (asked core packet) valid)
 
+-- the same from any bus that shows a status that is not busy
 by-bus : (core after : Core) (bus : BusState) (status result : ℕ) (body packet : List ℕ) (calls : List HostCall) (heard : Heard) (new : Table) → Valid (table_of core bus) → length body ≤ 248 → ShowsIdle status bus → IsPlain packet → length packet ≤ 256 →
     handled core 256 packet ≡ Answered after result body → LpcServed packet calls heard → CallsLead (table_of core bus) calls new → Exchanges status packet (response_packet result body) after calls heard new
 by-bus core after (OnLpc state) status result body packet calls heard new valid fits shows plain short same served lead =
