@@ -1,13 +1,14 @@
--- An exchange on LPC is a send.
-use Rattle.std.proofs.Common.{◌≡◌, refl, sym, ap, ◌∙◌, ℕ, suc, ◌+◌, true, List, [], ◌∷◌, ◌++◌, map, length, slice_index, append_assoc}
+-- An exchange on LPC is a send, and so is one with a changed byte.
+use Rattle.std.proofs.Common.{◌≡◌, refl, sym, ap, ◌∙◌, ℕ, suc, ◌+◌, true, List, [], ◌∷◌, ◌++◌, map, length, take, replicate, slice_index, append_assoc}
 use Rattle.ec_types.specs.declared.bus.BusKind.TheVariants.{Lpc}
 use Rattle.ec_model.specs.declared.event.Access.TheVariants.{PortOut, PortIn}
 use Rattle.ec_model.specs.declared.event.Event.{Event}
-use Rattle.ec_model.specs.declared.event.Event.TheVariants.{Access, Tick, Reset, Power, Pin}
+use Rattle.ec_model.specs.declared.event.Event.TheVariants.{Access, Tick}
 use Rattle.ec_model.specs.declared.event.Entry.{Entry}
 use Rattle.ec_model.specs.declared.event.Entry.TheVariants.{Step, Mark}
 use Rattle.ec_model.specs.HostCalls.{HostCall, Did, Waited, calls_of, call_before}
-use Rattle.ec_model.specs.Send.{Heard, Reply, Send, LpcWasServed, is_all_read, reads_on, heard_if, heard_with, port_writes, port_reads, spaced_reads, status_in}
+use Rattle.ec_model.specs.Send.{Reply, Bad, Send, LpcWasServed, is_all_read, reads_on, heard_if, heard_with, port_writes, port_reads, spaced_reads, status_in}
+use Rattle.ec_examples.specs.Sends.{hello_request, changed_lpc}
 use Rattle.ec_examples.specs.Entries.{plain, written_ports, read_ports, lpc_asked, lpc_exchange, waited}
 
 -- the calls of one entry, before others
@@ -59,3 +60,17 @@ lpc_exchange-sent request response whole heard =
           ∙ sym (append_assoc (calls_of (lpc_asked request)) (Waited ∷ Did status_in 1 ∷ []) (Did (PortIn 0x200) (slice_index response 2) ∷ port_reads 0x800 response));
       heard_is = heard;
     })
+
+-- the response with a changed byte is read, and is none
+pub changed-sent : Send Lpc changed_lpc hello_request Bad
+changed-sent = LpcWasServed (record {
+  first = take 14 (calls_of changed_lpc);
+  statuses = 1 ∷ [];
+  outcome = 0;
+  bytes = 0x03 ∷ 0x0F ∷ 0x00 ∷ 0x00 ∷ 0x04 ∷ 0x00 ∷ 0x00 ∷ 0x00 ∷ 0xD5 ∷ 0xC3 ∷ 0xB2 ∷ 0xA1 ∷ [];
+  asked = record { statuses = 0 ∷ []; gots = replicate 12 0; got = 0; idle = refl; each = refl; made = refl };
+  idle = refl;
+  whole = refl;
+  made = refl;
+  heard_is = refl;
+})

@@ -1,1 +1,4 @@
 pub mod Exchanges
+pub mod TryLemmas
+pub mod SyncLemmas
+pub mod RoundLemmas

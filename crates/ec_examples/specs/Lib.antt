@@ -4,3 +4,6 @@ pub mod Cores
 pub mod Replies
 pub mod Entries
 pub mod Waiting
+pub mod Sends
+pub mod Tries
+pub mod I2cExchanges

@@ -1,5 +1,5 @@
 // An erase in the background: one block a tick, and its saved status.
-ghost use Rattle.std.specs.Prelude.{◌≡◌, [], ◌∷◌, ◌++◌, replicate, Some, None};
+ghost use Rattle.std.specs.Prelude.{◌≡◌, [], ◌∷◌, replicate, Some, None};
 ghost use Rattle.flash_dev.specs.Flash.{overwritten};
 ghost use Rattle.ec_types.specs.declared.bus.BusKind.TheVariants.{I2c};
 ghost use Rattle.ec_model.specs.declared.event.Event.TheVariants.{Tick};

@@ -1,9 +1,8 @@
 // Reads, writes and erases of the flash: their statuses in their order, and what they leave.
-ghost use Rattle.std.specs.Prelude.{◌≡◌, [], ◌∷◌, ◌++◌, replicate, map, Some};
+ghost use Rattle.std.specs.Prelude.{◌≡◌, [], ◌∷◌, ◌++◌, replicate, Some};
 ghost use Rattle.ec_model.specs.Commands.{FlashRead, FlashWrite, FlashErase};
 ghost use Rattle.ec_model.specs.Bodies.{flash_read_ask, flash_write_ask, flash_erase_ask};
 ghost use Rattle.ec_model.specs.Operations.{Program, pieces};
-ghost use Rattle.ec_model.specs.Table.{Core};
 ghost use Rattle.ec_examples.specs.Flashes.{e64};
 ghost use Rattle.ec_examples.specs.Cores.{on};
 ghost use Rattle.ec_examples.specs.Replies.{replies, replies_within, core_after};

@@ -1,5 +1,5 @@
 // Events in which a call of the flash fails or power is lost.
-ghost use Rattle.std.specs.Prelude.{◌≡◌, ℕ, true, false, [], ◌∷◌, ◌++◌, replicate, Some, None};
+ghost use Rattle.std.specs.Prelude.{◌≡◌, true, false, [], ◌∷◌, replicate, Some, None};
 ghost use Rattle.flash_dev.specs.Flash.{overwritten, Torn};
 ghost use Rattle.ec_types.specs.declared.bus.BusKind.TheVariants.{Lpc, I2c};
 ghost use Rattle.ec_types.specs.declared.reset.ResetCause.TheVariants.{PowerOn};
@@ -12,12 +12,11 @@ ghost use Rattle.ec_model.specs.Bus.{fresh_bus};
 ghost use Rattle.ec_model.specs.Table.{table_of, off_table};
 ghost use Rattle.ec_model.specs.Hash.{with_hash, without_hash};
 ghost use Rattle.ec_model.specs.Boot.{booted_table};
-ghost use Rattle.ec_model.specs.Operations.{Program, Erase};
+ghost use Rattle.ec_model.specs.Operations.{Program, StopsAt};
 ghost use Rattle.ec_model.specs.ProtectRow.{protect_operations};
-ghost use Rattle.ec_model.specs.Operations.{StopsAt};
 ghost use Rattle.ec_model.specs.Stored.{stored};
 ghost use Rattle.ec_model.specs.Step.{IsStep, operations_of, with_job};
-ghost use Rattle.ec_examples.specs.Flashes.{e64, g64};
+ghost use Rattle.ec_examples.specs.Flashes.{e64};
 ghost use Rattle.ec_examples.specs.Cores.{on};
 ghost use Rattle.ec_examples.specs.Waiting.{write_waits, read_waits, write_on_i2c, torn_in_the_second, lpc_said};
 

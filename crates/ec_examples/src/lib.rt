@@ -2,6 +2,7 @@
 //! from the tables of the protocol.
 #![tactic(auto)]
 
+mod bench;
 mod checks;
 mod erases;
 mod flash;
@@ -13,8 +14,16 @@ mod lpc;
 mod packets;
 mod protection;
 mod questions;
+mod rounds;
+mod sends;
 mod spi;
+mod syncable;
+mod tries;
 
+pub use bench::{
+    armed_cut_behind_a_write, armed_cut_in_the_second_of_three_pieces, armed_events_that_are_due,
+    changed_byte_that_is_seen, two_events_and_a_changed_byte,
+};
 pub use checks::{
     bodies_of_another_length, checks_in_their_order, commands_while_an_erase_is_pending,
 };
@@ -32,8 +41,8 @@ pub use i2c::{
     untaken_accesses_on_i2c,
 };
 pub use interrupted::{
-    cut_inside_a_write_of_three_pieces, cut_inside_the_stored_bits, cut_of_an_access, erase_that_fails,
-    failure_inside_a_write_of_three_pieces, reads_that_fail, torn_range,
+    cut_inside_a_write_of_three_pieces, cut_inside_the_stored_bits, cut_of_an_access,
+    erase_that_fails, failure_inside_a_write_of_three_pieces, reads_that_fail, torn_range,
 };
 pub use jumps::{
     jump_to_an_erased_image, jumps_of_a_locked_controller, jumps_of_an_open_controller,
@@ -52,4 +61,17 @@ pub use questions::{
     fixed_answers, pending_erase_is_shown, regions, tests_of_the_protocol, versions_of_commands,
     versions_of_the_images,
 };
+pub use rounds::{round_without_power, two_short_rounds, what_a_round_is_shown};
+pub use sends::{
+    changed_byte_over_lpc, changed_byte_over_spi, hello_over_i2c, hello_over_lpc, hello_over_spi,
+    more_than_one_changed_byte, reset_over_i2c, reset_over_lpc, reset_over_spi,
+};
 pub use spi::{deselected_spi, hello_on_spi, too_long_on_spi};
+pub use syncable::{
+    images_that_fit, settled_tables, syncable_by_what_is_stored, syncable_to_what_rw_holds,
+};
+pub use tries::{
+    command_that_is_answered_at_once, commands_that_are_not_sent, erase_behind_another,
+    poll_until_no_erase_is_pending, replies_of_a_wanted_length, statuses_that_say_nothing,
+    three_tries_that_say_nothing,
+};

@@ -1,5 +1,5 @@
 // FLASH_PROTECT: what is stored, what is locked, and what is shown.
-ghost use Rattle.std.specs.Prelude.{◌≡◌, ℕ, true, false, List, [], ◌∷◌, replicate};
+ghost use Rattle.std.specs.Prelude.{◌≡◌, true, false, [], ◌∷◌, replicate};
 ghost use Rattle.flash_dev.specs.Flash.{overwritten};
 ghost use Rattle.ec_types.specs.declared.reset.ResetCause.TheVariants.{PowerOn};
 ghost use Rattle.ec_model.specs.Commands.{FlashWrite, FlashProtect};

@@ -1,4 +1,4 @@
-use Rattle.std.proofs.Common.{◌≡◌, refl, ap, ℕ, List, [], ◌∷◌, ◌++◌, replicate, slice_index, inl, inr, arith}
+use Rattle.std.proofs.Common.{refl, replicate}
 use Rattle.ec_model.specs.Operations.{Program}
 use Rattle.ec_examples.specs.Waiting.{torn_in_the_second}
 use Rattle.ec_examples.proofs.interrupted.cut_inside_a_write_of_three_pieces.Goals as goal

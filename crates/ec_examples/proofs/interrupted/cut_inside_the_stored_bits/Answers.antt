@@ -1,4 +1,4 @@
-use Rattle.std.proofs.Common.{◌≡◌, refl, ap, ℕ, List, [], ◌∷◌, ◌++◌, replicate, slice_index, inl, inr, arith}
+use Rattle.std.proofs.Common.{refl, [], ◌∷◌}
 use Rattle.ec_model.specs.Operations.{Program}
 use Rattle.ec_examples.proofs.interrupted.cut_inside_the_stored_bits.Goals as goal
 

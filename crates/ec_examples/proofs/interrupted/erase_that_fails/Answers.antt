@@ -1,4 +1,4 @@
-use Rattle.std.proofs.Common.{◌≡◌, refl, ap, ℕ, List, [], ◌∷◌, ◌++◌, replicate, slice_index, inl, inr, arith}
+use Rattle.std.proofs.Common.{refl, [], ◌∷◌, inr}
 use Rattle.flash_dev.specs.Flash.{overwritten}
 use Rattle.ec_model.specs.Operations.{Erase}
 use Rattle.ec_examples.specs.Flashes.{e64}

@@ -1,4 +1,4 @@
-use Rattle.std.proofs.Common.{◌≡◌, refl, ap, ℕ, List, [], ◌∷◌, ◌++◌, replicate, slice_index, inl, inr, arith}
+use Rattle.std.proofs.Common.{refl, inl}
 use Rattle.ec_examples.proofs.interrupted.reads_that_fail.Goals as goal
 
 pub returns-clause-request : goal.returns-clause-request

@@ -1,4 +1,4 @@
-use Rattle.std.proofs.Common.{◌≡◌, refl, ap, ℕ, List, [], ◌∷◌, ◌++◌, replicate, slice_index, inl, inr, arith}
+use Rattle.std.proofs.Common.{◌≡◌, refl, ap, ℕ, List, [], ◌∷◌, slice_index, arith}
 use Rattle.flash_dev.specs.Flash.{Torn, overwritten}
 use Rattle.ec_examples.specs.Flashes.{e64}
 use Rattle.ec_examples.proofs.interrupted.torn_range.Goals as goal

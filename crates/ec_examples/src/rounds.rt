@@ -1,0 +1,21 @@
+// The rounds of a sync, on I2C.
+ghost use Rattle.std.specs.Prelude.{true, false, [], ◌∷◌, ◌++◌};
+ghost use Rattle.ec_types.specs.declared.bus.BusKind.TheVariants.{I2c};
+ghost use Rattle.ec_model.specs.Rounds.{Rounds, IsShown, protocol_request};
+ghost use Rattle.ec_examples.specs.I2cExchanges.{stopped, short_round};
+
+/// With the power off a sync is one round: a stop, which has 0xFF.
+pub fn round_without_power()
+    ensures { Rounds I2c (record { on = false; spare = 3000000 }) (stopped 0xFF) (stopped 0xFF ∷ []) }
+{}
+
+/// A sync of two rounds, each of which ends behind GET_PROTOCOL_INFO; the second may leave a million less.
+pub fn two_short_rounds()
+    ensures { Rounds I2c (record { on = true; spare = 3000000 }) (short_round ++ short_round) (short_round ∷ short_round ∷ []) }
+{}
+
+/// Such a round is shown the limits of the bus.
+pub fn what_a_round_is_shown()
+    ensures { IsShown (record { bus = I2c; floor = 2000000 }) short_round protocol_request 0
+        (0x08 ∷ 0x00 ∷ 0x00 ∷ 0x00 ∷ 0x80 ∷ 0x00 ∷ 0x80 ∷ 0x00 ∷ 0x01 ∷ 0x00 ∷ 0x00 ∷ 0x00 ∷ []) }
+{}
