@@ -24,3 +24,6 @@ pub use probe::{TestAsk, TestSay};
 pub use protection::{FlashProtectAsk, FlashProtectSay, RegionInfoAsk, RegionInfoSay};
 pub use reboot::RebootAsk;
 pub use table::known;
+
+#[cfg(test)]
+mod tests;
