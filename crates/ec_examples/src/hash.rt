@@ -38,8 +38,8 @@ pub fn ranges_that_are_hashed()
 /// Another type, a nonce of more than 64 bytes, a range that is refused, and an unknown command have status 3.
 pub fn hashes_that_are_refused()
     ensures { replies ((VbootHash, 0, vboot_hash_ask 2 1 0 0 0x8000 4 (replicate 64 0)) ∷ (VbootHash, 0, vboot_hash_ask 2 0 65 0 0x8000 4 (replicate 64 0)) ∷
-        (VbootHash, 0, vboot_hash_ask 2 0 0 0 0xFFFC 8 (replicate 64 0)) ∷ (VbootHash, 0, vboot_hash_ask 3 0 0 0 0x8000 4 (replicate 64 0)) ∷ []) (on e64) ≡
-        (3, []) ∷ (3, []) ∷ (3, []) ∷ (3, []) ∷ [] }
+        (VbootHash, 0, vboot_hash_ask 2 0 0 0 0xFFFC 8 (replicate 64 0)) ∷ (VbootHash, 0, vboot_hash_ask 2 0 0 0 0x8000 0 (replicate 64 0)) ∷ (VbootHash, 0, vboot_hash_ask 3 0 0 0 0x8000 4 (replicate 64 0)) ∷ []) (on e64) ≡
+        (3, []) ∷ (3, []) ∷ (3, []) ∷ (3, []) ∷ (3, []) ∷ [] }
 {}
 
 /// A write of a byte of the range drops a hash, busy or done, and one beside it does not; ABORT drops it with no data.

@@ -8,7 +8,9 @@ ghost use Rattle.ec_examples.specs.Replies.{replies};
 
 /// A locked controller jumps to RW once after a boot, and not once jumps are disabled; a COLD, which has no reply, boots it.
 pub fn jumps_of_a_locked_controller()
-    ensures { replies ((Reboot, 0, reboot_ask 5 0) ∷ (Reboot, 0, reboot_ask 2 0) ∷ (Reboot, 0, reboot_ask 4 0) ∷ (Sysinfo, 0, []) ∷
+    ensures first { replies ((Reboot, 0, reboot_ask 2 0) ∷ (Sysinfo, 0, []) ∷ (Reboot, 0, reboot_ask 1 0) ∷ []) (reset (with_image g64)) ≡
+        (0, []) ∷ (0, sysinfo_say 0x402 2 0x0D) ∷ (4, []) ∷ [] }
+    ensures disabled { replies ((Reboot, 0, reboot_ask 5 0) ∷ (Reboot, 0, reboot_ask 2 0) ∷ (Reboot, 0, reboot_ask 4 0) ∷ (Sysinfo, 0, []) ∷
         (Reboot, 0, reboot_ask 2 0) ∷ (Sysinfo, 0, []) ∷ (Reboot, 0, reboot_ask 2 0) ∷ (Reboot, 0, reboot_ask 1 0) ∷ []) (on (with_image g64)) ≡
         (0, []) ∷ (4, []) ∷ (0, sysinfo_say 0x800 1 0x05) ∷ (0, []) ∷ (0, sysinfo_say 0xC00 2 0x0D) ∷ (0, []) ∷ (4, []) ∷ [] }
 {}

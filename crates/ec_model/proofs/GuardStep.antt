@@ -41,7 +41,7 @@ pub size_bound : (size : ℕ) → is_flash_size size ≡ true → 65536 ≤ size
 size_bound size allowed = grind (arith, eqb_tells)
 
 -- a part of a front
-take-drop-take : (n p m : ℕ) (xs : List ℕ) → p + n ≤ m → take n (drop p (take m xs)) ≡ take n (drop p xs)
+pub take-drop-take : (n p m : ℕ) (xs : List ℕ) → p + n ≤ m → take n (drop p (take m xs)) ≡ take n (drop p xs)
 take-drop-take n p m xs inside =
     let split : m ≡ p + (m - p) = omega arith in
     ap (λ (k : ℕ). take n (drop p (take k xs))) split ∙ ap (take n) (drop-take p (m - p) xs) ∙ take-take n (m - p) (drop p xs) (omega arith)

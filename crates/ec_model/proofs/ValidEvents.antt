@@ -133,7 +133,7 @@ WorkBus bus (Serve request) = HasWindow bus
 WorkBus bus other = IsBusValid bus
 
 -- the erase that some work goes on with
-abbrev WorkJob : Core → Work → Type 0
+abbrev pub WorkJob : Core → Work → Type 0
 WorkJob core (EraseNext job) = IsErasable (length core.flash) core.live (Some job)
 WorkJob core other = ⊤
 
@@ -175,7 +175,7 @@ failed-valid core flash operations k valid same =
     with-flash-valid (touched_by (take (suc k) operations) core) flash (same ∙ sym (ap length (same-flash_by (take (suc k) operations) core))) (touched_by-valid (take (suc k) operations) core valid)
 
 -- the operations of some work lie in the flash
-work_operations-inside : (core : Core) (work : Work) → IsCoreValid core → WorkJob core work → AllAbove 0 (length core.flash) (work_operations core work)
+pub work_operations-inside : (core : Core) (work : Work) → IsCoreValid core → WorkJob core work → AllAbove 0 (length core.flash) (work_operations core work)
 work_operations-inside core (Serve request) valid job = operations_by-inside core (asked core request) valid (spelled_from core (framing request))
 work_operations-inside core (EraseNext erase) valid job = (record { above = omega arith; inside = omega (arith, job.0, job.1) }, tt)
 work_operations-inside core other valid job = tt
@@ -231,7 +231,7 @@ access-job : (core : Core) (due : Option (List ℕ)) → WorkJob core (serve_or 
 access-job core None = tt
 access-job core (Some request) = tt
 
-work_on-job : (table : Table) (awake : Awake) (event : Event) → IsErasable (length table.flash) awake.live awake.live.erase → WorkJob (core_of table awake) (work_on awake event)
+pub work_on-job : (table : Table) (awake : Awake) (event : Event) → IsErasable (length table.flash) awake.live awake.live.erase → WorkJob (core_of table awake) (work_on awake event)
 work_on-job table awake (Access access) erasable = access-job (core_of table awake) (due_now (bus_step awake.bus access).state)
 work_on-job table awake Tick erasable = tick-job (core_of table awake) (due_at_tick awake.bus) awake.live.erase awake.live.hash erasable
 work_on-job table awake (Reset cause) erasable = tt
@@ -256,7 +256,7 @@ off-event-valid Failed old (PinEvent on) after valid leaves = absurd leaves
 off-event-valid Cut old event after valid leaves = absurd leaves
 
 -- a valid controller that is on
-core-valid : (table : Table) (awake : Awake) → is_flash_size (length table.flash) ≡ true → IsAwakeValid (length table.flash) table.kind awake → IsCoreValid (core_of table awake)
+pub core-valid : (table : Table) (awake : Awake) → is_flash_size (length table.flash) ≡ true → IsAwakeValid (length table.flash) table.kind awake → IsCoreValid (core_of table awake)
 core-valid table awake size valid = record { size = size; all_with_ro = valid.all_with_ro; jumped = valid.jumped; erase = valid.erase; hash = valid.hash }
 
 event-valid : (hurt : Hurt) (old : Table) (event : Event) (power : Power) (after : After) → Valid old → IsPowerValid (length old.flash) old.kind power → EventLeavesBy hurt old event power after → Valid after.table
