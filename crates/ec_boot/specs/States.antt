@@ -1,5 +1,5 @@
 -- A controller without its bus, as contracts see it.
-use Rattle.std.specs.Prelude.{◌≡◌, ℕ, ◌/◌, ◌+◌, ◌≤◌, Bool, false, ◌&&◌, ◌||◌, List, [], IsTrue, IsFalse, if◌then◌else◌, Option, None, option_map, Result, Ok, Err}
+use Rattle.std.specs.Prelude.{◌≡◌, ℕ, ◌/◌, ◌≤◌, Bool, ◌&&◌, ◌||◌, List, IsTrue, IsFalse, if◌then◌else◌, Option, None, option_map, Result, Ok, Err}
 use Rattle.flash_dev.specs.Flash.{block_size}
 use Rattle.flash_dev.specs.Counts.{Rose, raised_by}
 use Rattle.flash_dev.specs.Device.{DeviceView, IsChange}

@@ -1,5 +1,5 @@
 -- What a boot leaves.
-use Rattle.std.proofs.Common.{◌≡◌, refl, sym, ap, ◌∙◌, subst, ℕ, ◌+◌, ◌≤◌, Bool, true, false, List, Option, Some, None, inl, arith}
+use Rattle.std.proofs.Common.{◌≡◌, refl, sym, ap, ◌∙◌, subst, ℕ, Bool, true, false, List, Option, Some, None, inl, arith}
 use Rattle.std.specs.Prelude.{option_map, length, IsNone}
 use Rattle.ec_types.specs.declared.bus.BusKind.{BusKind}
 use Rattle.ec_types.specs.declared.bus.BusKind.TheVariants.{Lpc, I2c, Spi}
@@ -7,13 +7,13 @@ use Rattle.ec_types.specs.declared.reset.ResetCause.{ResetCause}
 use Rattle.ec_types.specs.declared.reset.ResetCause.TheVariants.{PowerOn}
 use Rattle.flash_dev.specs.Device.{DeviceView}
 use Rattle.ec_model.specs.declared.event.Hurt.{Hurt}
-use Rattle.ec_model.specs.declared.event.Hurt.TheVariants.{Whole, Failed, Cut}
+use Rattle.ec_model.specs.declared.event.Hurt.TheVariants.{Cut}
 use Rattle.ec_model.specs.declared.event.Event.{Event}
 use Rattle.ec_model.specs.declared.event.Event.TheVariants.{Access, Tick, Reset, Power as PowerEvent, Pin}
-use Rattle.ec_model.specs.Bus.{BusState, BusAnswer, kind_of, fresh_bus, due_now}
-use Rattle.ec_model.specs.Table.{Core, Table, table_of, off_table}
-use Rattle.ec_model.specs.Boot.{booted, booted_table}
-use Rattle.ec_model.specs.Step.{Work, Boot, WorkLeaves, OffLeaves, work_off, lost_answer, operations_of, After}
+use Rattle.ec_model.specs.Bus.{BusState, kind_of, fresh_bus, due_now}
+use Rattle.ec_model.specs.Table.{Core, table_of, off_table}
+use Rattle.ec_model.specs.Boot.{booted}
+use Rattle.ec_model.specs.Step.{Boot, WorkLeaves, OffLeaves, work_off, lost_answer, operations_of, After}
 use Rattle.ec_boot.specs.States.{RunView, OffView, core_at, told_core, IsLookedAt}
 use Rattle.command_table.specs.After.{Follows}
 use Rattle.ec_core.specs.Held.{up_table, down_table, IsSpent, EventTold, answer_by, boot_hurt}
@@ -123,8 +123,8 @@ booted-down {F} kind event cause hurt answer old_bus new_bus off pin next held b
     let power = power-on event cause (taken.task_is old_bus) in
     let nothing : answer ≡ 0 = taken.answer_is ∙ ap lost_answer power.event_is in
     let here : EventTold (boot_hurt bad) event answer (down_table kind pin off) (up_table (fresh_bus kind) next) =
-        subst (λ (e : Event). EventTold (boot_hurt bad) e answer (down_table kind pin off) (up_table (fresh_bus kind) next)) (sym power.event_is)
-        (subst (λ (n : ℕ). EventTold (boot_hurt bad) (PowerEvent true) n (down_table kind pin off) (up_table (fresh_bus kind) next)) (sym nothing) (boot-off-told off next pin kind bad told)) in
+    subst (λ (e : Event). EventTold (boot_hurt bad) e answer (down_table kind pin off) (up_table (fresh_bus kind) next)) (sym power.event_is)
+    (subst (λ (n : ℕ). EventTold (boot_hurt bad) (PowerEvent true) n (down_table kind pin off) (up_table (fresh_bus kind) next)) (sym nothing) (boot-off-told off next pin kind bad told)) in
     subst (λ (h : Hurt). IsStepped {F = F} kind event h (answer_by h answer (lost_answer event)) old_bus new_bus (Some (Down off pin)) (Some held)) (sym hurt_is)
     (subst (λ (b : BusState). IsStepped {F = F} kind event (boot_hurt bad) (answer_by (boot_hurt bad) answer (lost_answer event)) old_bus b (Some (Down off pin)) (Some held)) (sym bus_is)
     (subst (λ (h : Held F). IsStepped {F = F} kind event (boot_hurt bad) (answer_by (boot_hurt bad) answer (lost_answer event)) old_bus (fresh_bus kind) (Some (Down off pin)) (Some h)) (sym held_is)

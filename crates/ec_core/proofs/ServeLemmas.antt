@@ -1,5 +1,5 @@
 -- What a request leaves, by its answer.
-use Rattle.std.proofs.Common.{◌≡◌, refl, sym, ap, ◌∙◌, subst, ℕ, ◌+◌, ◌-◌, ◌≤◌, Bool, true, List, [], length, Option, Some, None, Result, Ok, Err, inl, inr, arith}
+use Rattle.std.proofs.Common.{◌≡◌, refl, sym, ap, ◌∙◌, subst, ℕ, ◌-◌, ◌≤◌, Bool, true, List, [], length, Option, Some, None, Result, Ok, Err, inl, inr, arith}
 use Rattle.std.specs.Prelude.{option_map, ◌⊎◌, IsTrue, IsNone}
 use Rattle.flash_dev.specs.Told.{Changes}
 use Rattle.flash_dev.specs.Device.{DeviceView}
@@ -14,7 +14,7 @@ use Rattle.ec_model.specs.Packet.{RequestView, framing, response_packet}
 use Rattle.ec_model.specs.Bus.{BusState, BusAnswer, due_now, OnLpc, OnI2c, OnSpi, kind_of, replied}
 use Rattle.ec_model.specs.Table.{Core, Table, table_of, off_table}
 use Rattle.ec_model.specs.Answer.{Outcome, Answered, Restarts}
-use Rattle.ec_model.specs.Handle.{Admitted, admitted, admitted_from, asked, row_of, operations_by, handled, handled_reads, handled_operations}
+use Rattle.ec_model.specs.Handle.{admitted, admitted_from, asked, row_of, operations_by, handled, handled_reads, handled_operations}
 use Rattle.ec_model.specs.Step.{Work, Serve, WorkLeaves, after_outcome, after_unread, outcome_reads, After as AfterEvent, error_replied, failed_core, work_on, lost_answer, operations_of, work_operations}
 use Rattle.ec_packet.specs.declared.request.Request.{Request}
 use Rattle.ec_packet.specs.Read.{request_view, IsReadAs}
@@ -22,13 +22,11 @@ use Rattle.ec_wire.specs.Dues.{asked_of}
 use Rattle.ec_boot.specs.States.{RunView, OffView, core_at, told_core}
 use Rattle.ec_boot.specs.Spent.{Costs, RisesAtMost}
 use Rattle.command_table.specs.declared.table.After.{After}
-use Rattle.command_table.specs.declared.table.After.TheVariants.{Ro}
 use Rattle.command_table.specs.Leaves.{FoundLeaves, HasReply, IsStopped}
 use Rattle.command_table.specs.After.{Follows, IsAnswered, IsLostIn, StaysOn, GoesOff}
 use Rattle.ec_core.specs.View.{WearsBy}
 use Rattle.ec_core.specs.Held.{awake_of, up_table, down_table, answer_by, IsSpent}
 use Rattle.ec_core.specs.Task.{IsTakenUp, IsStepped}
-use Rattle.ec_core.specs.declared.held.Held.{Held}
 use Rattle.ec_core.specs.declared.held.Held.TheVariants.{Down, Up}
 use Rattle.ec_core.specs.declared.task.Task.TheVariants.{Serve as ServeTask}
 use Rattle.ec_core.proofs.TaskLemmas.{WorkTold, event-told, on_by, step-up, stays, unspent}

@@ -1,27 +1,22 @@
 -- What an event leaves, by what its task leaves.
-use Rattle.std.proofs.Common.{◌≡◌, refl, sym, ap, ◌∙◌, subst, ℕ, ◌+◌, ◌≤◌, min, Bool, true, false, List, [], length, Option, Some, None, arith, inl, inr}
-use Rattle.std.specs.Prelude.{option_map, IfSome, is_some}
-use Rattle.flash_dev.specs.Counts.{last_count}
+use Rattle.std.proofs.Common.{◌≡◌, refl, sym, ap, ◌∙◌, subst, ℕ, Bool, true, false, List, length, Option, Some, None, arith}
+use Rattle.std.specs.Prelude.{option_map, is_some}
 use Rattle.flash_dev.specs.Device.{DeviceView}
 use Rattle.ec_types.specs.declared.bus.BusKind.{BusKind}
-use Rattle.ec_types.specs.declared.reset.ResetCause.{ResetCause}
-use Rattle.ec_types.specs.declared.reset.ResetCause.TheVariants.{PowerOn}
 use Rattle.ec_model.specs.declared.event.Hurt.{Hurt}
 use Rattle.ec_model.specs.declared.event.Hurt.TheVariants.{Whole, Failed, Cut}
 use Rattle.ec_model.specs.declared.event.Event.{Event}
 use Rattle.ec_model.specs.declared.event.Event.TheVariants.{Access, Tick, Reset, Power as PowerEvent, Pin}
 use Rattle.ec_model.specs.HostCalls.{on_after_event}
-use Rattle.ec_model.specs.Guarded.{pin_after}
-use Rattle.ec_model.specs.Bus.{BusState, BusAnswer, kind_of, fresh_bus}
-use Rattle.ec_model.specs.Table.{Core, Table, table_of, off_table}
-use Rattle.ec_model.specs.Boot.{booted, booted_table}
-use Rattle.ec_model.specs.Step.{Work, Rest, Serve, Boot, Stop, SetPin, WorkLeaves, OffLeaves, work_on, work_off, worked_off, bus_after, lost_answer, operations_of, After}
+use Rattle.ec_model.specs.Bus.{BusState, BusAnswer, kind_of}
+use Rattle.ec_model.specs.Table.{Table, table_of, off_table}
+use Rattle.ec_model.specs.Step.{Work, Rest, Serve, Stop, SetPin, WorkLeaves, work_on, work_off, worked_off, bus_after, lost_answer, operations_of, After}
 use Rattle.ec_wire.specs.Dues.{asked_of}
 use Rattle.ec_boot.specs.States.{RunView, OffView, core_at, told_core}
 use Rattle.ec_boot.specs.Spent.{Costs, RisesAtMost}
 use Rattle.command_table.specs.After.{Follows}
 use Rattle.ec_core.specs.View.{WearsBy}
-use Rattle.ec_core.specs.Held.{awake_of, up_table, down_table, held_table, held_pin, held_device, is_up, is_kept_up, IsCalm, IsSpent, IsSilent, EventTold, answer_by, boot_hurt, on_behind}
+use Rattle.ec_core.specs.Held.{awake_of, up_table, down_table, held_table, held_pin, held_device, is_up, is_kept_up, IsCalm, IsSpent, IsSilent, EventTold, answer_by, on_behind}
 use Rattle.ec_core.specs.Task.{IsTakenUp, IsTakenDown, IsTaken, IsStepped, CanCarry, on_after_task, pin_after_task}
 use Rattle.ec_core.specs.declared.held.Held.{Held}
 use Rattle.ec_core.specs.declared.held.Held.TheVariants.{Down, Up}
@@ -125,6 +120,7 @@ step-down {F} kind event hurt answer old_bus new_bus task off pin new alive take
       by Whole = refl
       by Failed = refl
       by Cut = sym taken.answer_is
+
       on_is : (h : Hurt) → (h ≡ Cut → ⊥) → on_behind h event false ≡ on_after_task task false
       on_is Whole lives = taken.like.on_is
       on_is Failed lives = taken.like.on_is
@@ -166,9 +162,9 @@ stop-told : (bus : BusState) (kind : BusKind) (answer lost : ℕ) (run : RunView
     WorkTold Whole (record { state = bus; answer = answer }) lost Stop answer run (down_table kind run.pin off)
 stop-told bus kind answer lost run off kind_is device_is =
     subst (λ (device : DeviceView). WorkTold Whole (record { state = bus; answer = answer }) lost Stop answer run (option_map (λ flash. off_table flash run.pin kind) device.held)) (sym device_is) (by run.device.held) where
-  by : (o : Option (List ℕ)) → Follows (λ core table. WorkLeaves Whole core (record { state = bus; answer = answer }) lost Stop (record { table = table; answer = answer })) (option_map (core_at run) o) (option_map (λ flash. off_table flash run.pin kind) o)
-  by None = tt
-  by (Some f) = ap (λ (k : BusKind). let a : After = record { table = off_table f run.pin k; answer = answer } in a) (sym kind_is)
+      by : (o : Option (List ℕ)) → Follows (λ core table. WorkLeaves Whole core (record { state = bus; answer = answer }) lost Stop (record { table = table; answer = answer })) (option_map (core_at run) o) (option_map (λ flash. off_table flash run.pin kind) o)
+      by None = tt
+      by (Some f) = ap (λ (k : BusKind). let a : After = record { table = off_table f run.pin k; answer = answer } in a) (sym kind_is)
 
 pub stopped-up : {F : Type 0} (kind : BusKind) (event : Event) (answer : ℕ) (old_bus bus : BusState) (run : RunView) (off : OffView) (pin : Bool) → kind_of bus ≡ kind → off.device ≡ run.device → pin ≡ run.pin →
     IsTakenUp event old_bus (Some StopTask) bus answer run → IsStepped {F = F} kind event Whole answer old_bus bus (Some (Up run)) (Some (Down off pin))
@@ -218,8 +214,8 @@ pinned-down {F} kind event on answer old_bus bus off pin taken =
     let is = pin-event event on (taken.task_is old_bus) in
     let nothing : answer ≡ 0 = taken.answer_is ∙ ap lost_answer is.event_is in
     let here : EventTold Whole event answer (down_table kind pin off) (down_table kind on off) =
-        subst (λ (e : Event). EventTold Whole e answer (down_table kind pin off) (down_table kind on off)) (sym is.event_is)
-        (subst (λ (n : ℕ). EventTold Whole (Pin on) n (down_table kind pin off) (down_table kind on off)) (sym nothing) (pin-off-told kind pin on off)) in
+    subst (λ (e : Event). EventTold Whole e answer (down_table kind pin off) (down_table kind on off)) (sym is.event_is)
+    (subst (λ (n : ℕ). EventTold Whole (Pin on) n (down_table kind pin off) (down_table kind on off)) (sym nothing) (pin-off-told kind pin on off)) in
     step-down {F = F} kind event Whole answer old_bus bus (Some (SetPinTask on)) off pin (Down off on) (λ cut. cc) taken here refl refl tt (unspent 1024 off.device) refl
 
 -- a request is there where one is to be served, and only a controller that is on serves or stops

@@ -1,6 +1,6 @@
 -- What holds of a controller's table behind an event, where it is told.
-use Rattle.std.proofs.Common.{◌≡◌, ℕ, Bool, true, false, List, Option, Some, None, refl}
-use Rattle.std.specs.Prelude.{option_map, IfSome, IsTrue}
+use Rattle.std.proofs.Common.{◌≡◌, ℕ, true, false, List, Option, Some, None, refl}
+use Rattle.std.specs.Prelude.{option_map, IfSome}
 use Rattle.flash_dev.specs.Told.{Changes}
 use Rattle.ec_types.specs.declared.bus.BusKind.{BusKind}
 use Rattle.ec_model.specs.declared.event.Hurt.{Hurt}
@@ -14,10 +14,9 @@ use Rattle.ec_model.proofs.GuardStep.{step-kept}
 use Rattle.ec_model.proofs.RunLaws.{guarded_bytes-leaves}
 use Rattle.ec_model.proofs.BootLaws.{boots-ro, boots-locked}
 use Rattle.ec_wire.specs.Calls.{Agrees}
-use Rattle.ec_boot.specs.States.{RunView, OffView, core_at}
-use Rattle.flash_dev.specs.Device.{DeviceView}
+use Rattle.ec_boot.specs.States.{core_at}
 use Rattle.ec_core.specs.View.{KeepsGuard, BootsRo}
-use Rattle.ec_core.specs.Held.{EventTold, kept_table, is_kept_up, kept_device}
+use Rattle.ec_core.specs.Held.{EventTold, kept_table, is_kept_up}
 use Rattle.ec_core.specs.declared.held.Held.{Held}
 use Rattle.ec_core.specs.declared.held.Held.TheVariants.{Down, Up}
 

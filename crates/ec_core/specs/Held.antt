@@ -1,5 +1,5 @@
 -- What a controller holds: the flash and the pin alone, or all that is on.
-use Rattle.std.specs.Prelude.{◌≡◌, ℕ, Bool, true, false, List, Option, Some, None, option_map, IsNone, IfSome, ⊤}
+use Rattle.std.specs.Prelude.{◌≡◌, ℕ, Bool, true, false, Option, Some, None, option_map, IsNone, IfSome, ⊤}
 use Rattle.flash_dev.specs.Told.{Changes}
 use Rattle.flash_dev.specs.Device.{DeviceView}
 use Rattle.ec_types.specs.declared.bus.BusKind.{BusKind}
@@ -8,11 +8,11 @@ use Rattle.ec_model.specs.declared.event.Event.TheVariants.{Access as AccessEven
 use Rattle.ec_model.specs.declared.event.Hurt.{Hurt}
 use Rattle.ec_model.specs.declared.event.Hurt.TheVariants.{Whole, Failed, Cut}
 use Rattle.ec_model.specs.Bus.{BusState, due_now}
-use Rattle.ec_model.specs.Table.{Awake, Table, Core, Valid, off_table, table_of}
+use Rattle.ec_model.specs.Table.{Awake, Table, Valid, off_table, table_of}
 use Rattle.ec_model.specs.HostCalls.{on_after_event}
 use Rattle.ec_model.specs.Step.{EventLeaves}
 use Rattle.ec_boot.specs.Spent.{Costs}
-use Rattle.ec_boot.specs.States.{RunView, OffView, core_at, told_core}
+use Rattle.ec_boot.specs.States.{RunView, OffView, core_at}
 use Rattle.ec_core.specs.declared.held.Held.{Held}
 use Rattle.ec_core.specs.declared.held.Held.TheVariants.{Down, Up}
 

@@ -3,8 +3,8 @@ use Rattle.std.specs.Prelude.{◌≡◌, ℕ, Bool, true, false, IsNone, IsSome,
 use Rattle.ec_types.specs.declared.bus.BusKind.{BusKind}
 use Rattle.ec_model.specs.declared.event.Event.{Event}
 use Rattle.ec_model.specs.declared.event.Hurt.{Hurt}
-use Rattle.ec_model.specs.declared.event.Hurt.TheVariants.{Whole, Failed, Cut}
-use Rattle.ec_model.specs.Bus.{BusState, BusAnswer, due_now}
+use Rattle.ec_model.specs.declared.event.Hurt.TheVariants.{Cut}
+use Rattle.ec_model.specs.Bus.{BusState, due_now}
 use Rattle.ec_model.specs.HostCalls.{on_after_event}
 use Rattle.ec_model.specs.Guarded.{pin_after}
 use Rattle.ec_model.specs.Step.{Work, Rest, Serve, Boot, Stop, SetPin, work_on, work_off, bus_after, lost_answer}

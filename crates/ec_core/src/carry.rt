@@ -1,5 +1,6 @@
 // What a task makes of what the controller holds.
 ghost use Rattle.std.specs.Prelude.{◌≡◌, Some, IsSome, true, false};
+ghost use Rattle.ec_model.specs.Bus.{fresh_bus};
 ghost use Rattle.ec_core.specs.declared.held.Held.TheVariants.{Up, Down};
 ghost use Rattle.ec_core.specs.Held.{boot_hurt, is_up, is_kept_up};
 ghost use Rattle.ec_core.specs.Task.{IsCarried, CanCarry};
@@ -18,11 +19,13 @@ pub struct Carried<F: FlashDev> {
     pub hurt: Hurt,
 }
 
-// A controller that booted. Where the stored protection could not be read, a flash call failed.
-fn booted<F: FlashDev>(on: InRo<F>) -> Carried<F>
+// A controller that booted gets a fresh bus. A flash call failed where the stored protection could not be read.
+fn booted<B: Bus + Drop, F: FlashDev>(on: InRo<F>, bus: &mut B) -> Carried<F>
+    ensures bus { B.state bus.new ≡ fresh_bus B.bus }
     ensures held { result.held ≡ Up on }
     ensures hurt { result.hurt ≡ boot_hurt on.live.pstate_bad }
 {
+    *bus = B::fresh();
     let hurt = if on.live().pstate_bad {
         Hurt::Failed
     } else {
@@ -41,17 +44,11 @@ fn carry_up<B: Bus + Drop, F: FlashDev>(mut on: InRo<F>, bus: &mut B, task: Task
 {
     match task {
         Task::Serve => serve(on, bus),
-        Task::Boot { cause } => {
-            *bus = B::fresh();
-            booted(on.reset(cause))
-        }
+        Task::Boot { cause } => booted(on.reset(cause), bus),
         Task::Stop => {
             let pin = on.pin();
             Carried {
-                held: Held::Down {
-                    off: on.cut(),
-                    pin,
-                },
+                held: Held::Down { off: on.cut(), pin },
                 hurt: Hurt::Whole,
             }
         }
@@ -66,15 +63,17 @@ fn carry_up<B: Bus + Drop, F: FlashDev>(mut on: InRo<F>, bus: &mut B, task: Task
 }
 
 // A task of a controller that is off.
-fn carry_down<B: Bus + Drop, F: FlashDev>(off: Off<F>, pin: bool, bus: &mut B, task: Task) -> Carried<F>
+fn carry_down<B: Bus + Drop, F: FlashDev>(
+    off: Off<F>,
+    pin: bool,
+    bus: &mut B,
+    task: Task,
+) -> Carried<F>
     requires { CanCarry task (B.state bus.old) false }
     ensures { IsCarried B.bus task result.hurt (B.state bus.old) (B.state bus.new) (Some (Down off pin)) (Some result.held) }
 {
     match task {
-        Task::Boot { cause: _ } => {
-            *bus = B::fresh();
-            booted(off.power_on(pin))
-        }
+        Task::Boot { cause: _ } => booted(off.power_on(pin), bus),
         Task::SetPin { on } => Carried {
             held: Held::Down { off, pin: on },
             hurt: Hurt::Whole,
@@ -95,7 +94,11 @@ fn carry<B: Bus + Drop, F: FlashDev>(held: Held<F>, bus: &mut B, task: Task) -> 
 }
 
 /// Does a task on what a controller holds. Gives what a flash call did.
-pub fn carry_out<B: Bus + Drop, F: FlashDev>(held: &mut Option<Held<F>>, bus: &mut B, task: Task) -> Hurt
+pub fn carry_out<B: Bus + Drop, F: FlashDev>(
+    held: &mut Option<Held<F>>,
+    bus: &mut B,
+    task: Task,
+) -> Hurt
     requires held { IsSome held.old }
     requires task { CanCarry task (B.state bus.old) (is_kept_up held.old) }
     ensures { IsCarried B.bus task result (B.state bus.old) (B.state bus.new) held.old held.new }

@@ -26,9 +26,9 @@ returns-in-None-clause-leaves g c =
     let sized : IfSome old.device.held (λ (f : List ℕ). length f ≡ n) = rw (c.size-size.ensures.size ∙ c.geometry.ensures.size) c.geometry.ensures.whole in
     let may = c.in-None.ensures.allowed refl in
     let is : IsAllowed n c.args.version old request =
-        allowed-from n c.args.version old request c.read_u32-at.result c.read_u32-count.result c.requires.spelled c.read_u32-at.ensures c.read_u32-count.ensures
-        (λ core body length_is live_is range_is. c.in-None.ensures.refusal core body length_is (rw c.live-live.ensures.live live_is) range_is)
-        may.some may.inside (has-bytes old.device.extent old.live.hash old.nonce c.live-live.ensures.valid.hash) in
+    allowed-from n c.args.version old request c.read_u32-at.result c.read_u32-count.result c.requires.spelled c.read_u32-at.ensures c.read_u32-count.ensures
+    (λ core body length_is live_is range_is. c.in-None.ensures.refusal core body length_is (rw c.live-live.ensures.live live_is) range_is)
+    may.some may.inside (has-bytes old.device.extent old.live.hash old.nonce c.live-live.ensures.valid.hash) in
     write-told n c.args.version old new request c.write_pieces.result c.hurt_after-hurt.result c.end.new.self.hurt c.end.new.self.status c.end.new.self.body is sized
     (ran-at old new c.write_pieces.result request c.read_u32-at.result c.read_u32-at.ensures (λ count enough. c.write_pieces.ensures.ran count enough))
     c.hurt_after-hurt.ensures c.end.ensures.hurt c.end.ensures.status c.end.ensures.body
@@ -41,7 +41,7 @@ returns-in-None-clause-wear g c =
     let sized : IfSome old.device.held (λ (f : List ℕ). length f ≡ n) = rw (c.size-size.ensures.size ∙ c.geometry.ensures.size) c.geometry.ensures.whole in
     let may = c.in-None.ensures.allowed refl in
     let is : IsAllowed n c.args.version old request =
-        allowed-from n c.args.version old request c.read_u32-at.result c.read_u32-count.result c.requires.spelled c.read_u32-at.ensures c.read_u32-count.ensures
-        (λ core body length_is live_is range_is. c.in-None.ensures.refusal core body length_is (rw c.live-live.ensures.live live_is) range_is)
-        may.some may.inside (has-bytes old.device.extent old.live.hash old.nonce c.live-live.ensures.valid.hash) in
+    allowed-from n c.args.version old request c.read_u32-at.result c.read_u32-count.result c.requires.spelled c.read_u32-at.ensures c.read_u32-count.ensures
+    (λ core body length_is live_is range_is. c.in-None.ensures.refusal core body length_is (rw c.live-live.ensures.live live_is) range_is)
+    may.some may.inside (has-bytes old.device.extent old.live.hash old.nonce c.live-live.ensures.valid.hash) in
     write-wears n c.args.version old request c.read_u32-at.result (g.R.Running.run c.write_pieces.new.state).device.wear is sized c.read_u32-at.ensures (λ count enough. c.write_pieces.ensures.wear count enough)
