@@ -1,5 +1,10 @@
-// A source over a reader and a sink over a writer. They tell no content, since nothing vouches for what is behind them.
-ghost use Rattle.std.specs.Prelude.{None};
+// A source over a reader and a sink over a writer. To contracts over sources and sinks they tell no content, since nothing vouches
+// for what is behind them.
+ghost use Rattle.std.specs.Prelude.{◌<◌, ◌≤◌, length, None, IfOk};
+ghost use Rattle.std.specs.Io.KnownBytes.{ReadConsumes, WriteAppends};
+ghost use Rattle.flash_dev.specs.Counts.{HasFaults};
+ghost use Rattle.flash_dev.specs.Told.{Changes};
+ghost use Rattle.bench_io.specs.Streams.{Gives, Puts};
 
 use crate::{Sink, Source};
 use flash_dev::Failed;
@@ -23,7 +28,14 @@ impl<R: Read> Source for StdSource<R> {
 
     ghost faults = { λ source. source.faults };
 
-    fn next(&mut self, buf: &mut [u8]) -> Result<usize, Failed> {
+    fn next(&mut self, buf: &mut [u8]) -> Result<usize, Failed>
+        requires { 0 < length buf.old }
+        ensures bound { IfOk result (λ count. count ≤ length buf.new) }
+        ensures bytes { Changes (Gives result buf.new) None None }
+        ensures cause { HasFaults self.old.faults self.new.faults result }
+        // What the reader says of its bytes is handed on.
+        ensures passes { ReadConsumes (R.remaining self.old.reader) (R.remaining self.new.reader) result buf.new }
+    {
         match self.reader.read(buf) {
             Ok(count) => Ok(count),
             Err(_) => {
@@ -52,7 +64,15 @@ impl<W: Write> Sink for StdSink<W> {
 
     ghost faults = { λ sink. sink.faults };
 
-    fn put(&mut self, bytes: &[u8]) -> Result<usize, Failed> {
+    fn put(&mut self, bytes: &[u8]) -> Result<usize, Failed>
+        requires { 0 < length bytes.now }
+        ensures some { IfOk result (λ count. 0 < count) }
+        ensures bound { IfOk result (λ count. count ≤ length bytes.now) }
+        ensures bytes { Changes (Puts result bytes.now) None None }
+        ensures cause { HasFaults self.old.faults self.new.faults result }
+        // What the writer says of its bytes is handed on.
+        ensures passes { WriteAppends (W.contents self.old.writer) (W.contents self.new.writer) result bytes.now }
+    {
         match self.writer.write(bytes) {
             Ok(count) if count > 0 => Ok(count),
             _ => {

@@ -61,7 +61,7 @@ adds-step bus event answer byte hurt old new byte_is hurt_is entries spare some 
         entries = entries ∙ ap (λ (b : ℕ). old.entries ++ Step event answer b answer hurt ∷ []) byte_is ∙ ap (λ (h : Hurt). old.entries ++ Step event answer own answer h ∷ []) hurt_is;
         on = on ∙ on-behind now event answer own answer old.controller.on;
         bus = refl;
-        armed = refl;
+        armed = λ off. refl;
         faults = rose-faults now event answer own answer old.controller.device new.controller.device spent;
         cuts = rose-cuts now event answer own answer old.controller.device new.controller.device spent;
         run = run-of-step (Step event answer own answer now) old.controller.table new.controller.table (step own answer);
@@ -84,7 +84,7 @@ access-adds access answer hurt old new adds =
       on = adds.extends.on;
       bus = adds.extends.bus;
       steps = refl;
-      quiet = λ off. record { disarmed = adds.extends.armed ∙ off; no_event = refl; no_byte = rw (unchanged (AccessEvent access) answer hurt) refl };
+      quiet = λ off. record { disarmed = adds.extends.armed off; no_event = refl; no_byte = rw (unchanged (AccessEvent access) answer hurt) refl };
       faults = adds.extends.faults;
       cuts = adds.extends.cuts;
       run = adds.extends.run;
@@ -111,7 +111,7 @@ wait-adds hurt old new adds =
         on = adds.extends.on;
         bus = adds.extends.bus;
         steps = refl;
-        quiet = λ off. record { disarmed = adds.extends.armed ∙ off; no_event = refl; no_byte = refl };
+        quiet = λ off. record { disarmed = adds.extends.armed off; no_event = refl; no_byte = refl };
         faults = adds.extends.faults;
         cuts = adds.extends.cuts;
         run = adds.extends.run;

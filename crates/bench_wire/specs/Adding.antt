@@ -1,5 +1,5 @@
 -- What one entry makes of a bench.
-use Rattle.std.specs.Prelude.{◌≡◌, ℕ, ◌+◌, Bool, true, false, List, [], ◌∷◌, ◌++◌, count_by}
+use Rattle.std.specs.Prelude.{◌≡◌, ℕ, ◌+◌, Bool, true, false, IsFalse, List, [], ◌∷◌, ◌++◌, count_by}
 use Rattle.ec_model.specs.declared.event.Event.{Event}
 use Rattle.ec_model.specs.declared.event.Event.TheVariants as event
 use Rattle.ec_model.specs.declared.event.WorldEvent.{WorldEvent}
@@ -17,7 +17,7 @@ pub record Extends (added : List Entry) (old new : WireView) : Type 0 where
   pub entries : new.entries ≡ old.entries ++ added
   pub on : new.on ≡ on_after added old.on
   pub bus : new.bus ≡ old.bus
-  pub armed : new.armed ≡ old.armed
+  pub armed : IsFalse old.armed → IsFalse new.armed
   pub faults : RoseBy (count_by is_failed_entry added) old.faults new.faults
   pub cuts : RoseBy (count_by is_cut_entry added) old.cuts new.cuts
   pub run : RunsAlong added old.table new.table

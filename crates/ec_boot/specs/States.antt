@@ -7,11 +7,11 @@ use Rattle.flash_dev.specs.declared.device.DevErr.{DevErr}
 use Rattle.flash_ctl.specs.Locks.{CtlView, no_locks, with_locked}
 use Rattle.flash_ctl.specs.declared.CtlErr.{CtlErr}
 use Rattle.flash_ctl.specs.declared.CtlErr.TheVariants.{Locked, Device}
-use Rattle.ec_types.specs.declared.image.ImageCopy.TheVariants.{Ro}
+use Rattle.ec_types.specs.declared.image.ImageCopy.TheVariants.{Ro, Rw}
 use Rattle.ec_model.specs.declared.live.Live.{Live}
 use Rattle.ec_model.specs.declared.live.HashView.TheVariants.{Idle}
 use Rattle.ec_model.specs.Ranges.{Range, is_flash_size, overlaps, wp_ro_range}
-use Rattle.ec_model.specs.Table.{Core}
+use Rattle.ec_model.specs.Table.{Core, IsErasable, IsHashable}
 use Rattle.ec_model.specs.Hash.{touched}
 
 -- off: only the flash is left
@@ -52,6 +52,15 @@ pub record IsRunning (ctl : CtlView) (live : Live) : Type 0 where
   pub copy : live.copy ≡ Ro
   pub hash : live.hash ≡ Idle
   pub erase : live.erase ≡ None
+
+-- what holds of each controller that is on, whichever image runs
+pub record IsLiveValid (run : RunView) : Type 0 where
+  -- all blocks are locked only with the RO blocks
+  pub all_with_ro : IsTrue run.live.all_now → IsTrue run.live.ro_now
+  -- RW runs only after a jump
+  pub jumped : run.live.copy ≡ Rw → IsTrue run.live.jumped
+  pub erase : IsErasable run.device.extent run.live run.live.erase
+  pub hash : IsHashable run.device.extent run.live.hash run.nonce
 
 -- a boot looked at the device once; `unread` says that this failed
 pub record IsLookedAt (unread : Bool) (old new : DeviceView) : Type 0 where

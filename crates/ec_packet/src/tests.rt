@@ -32,7 +32,11 @@ fn requests_are_tested_in_order(rt: HostRuntime) -> Result<(), Fail> {
         ([4, 0, 0, 0, 0, 0, 4, 0].as_slice(), 12),
         ([3, 0, 0, 0, 0, 1, 4, 0].as_slice(), 12),
         ([3, 0, 0, 0, 0, 0, 4, 0].as_slice(), 13),
-        ([3, 0, 0, 0, 0, 0, 0, 0].as_slice(), 7),
+        ([3, 0, 1, 0, 0, 0, 0xF9, 0].as_slice(), 13),
+        (
+            [3, 0x19, 1, 0, 0, 0, 4, 0, 0xD0, 0xC0, 0xB0, 0xA0].as_slice(),
+            7,
+        ),
     ] {
         match decode_request(bytes) {
             Ok(_) => assert!(rt; false, "refused with {status}"),

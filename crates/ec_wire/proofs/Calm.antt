@@ -47,6 +47,7 @@ hurt-none (Step event answer meant seen Failed) failed cut = failed
 hurt-none (Step event answer meant seen Cut) failed cut = cut
 hurt-none (Mark line) failed cut = refl
 
+-- three tests that do not hold
 upset-none : (world hurt changed : Bool) → world ≡ false → hurt ≡ false → changed ≡ false → (world || hurt || changed) ≡ false
 upset-none false false false first second third = refl
 upset-none false false true first second third = third
@@ -93,14 +94,17 @@ pub record IsCalmEntry (event : Event) (answer meant seen : ℕ) (hurt : Hurt) :
   pub same : seen ≡ answer
   pub own : event_byte event ≡ meant
 
+-- a Hurt that is whole
 whole_of : (hurt : Hurt) → not (is_whole hurt) ≡ false → hurt ≡ Whole
 whole_of Whole same = refl
 whole_of Failed same = cc
 whole_of Cut same = cc
 
+-- two numbers that do not differ
 eq_of : (a b : ℕ) → not (a == b) ≡ false → a ≡ b
 eq_of a b same = grind (arith, eqb_tells)
 
+-- the fields of an entry that disturbs nothing
 pub calm_entry : (event : Event) (answer meant seen : ℕ) (hurt : Hurt) → is_upset (Step event answer meant seen hurt) ≡ false → IsCalmEntry event answer meant seen hurt
 calm_entry event answer meant seen hurt calm =
     let parts = or-false (is_world_event event || not (is_whole hurt)) (not (seen == answer) || not (event_byte event == meant)) calm in

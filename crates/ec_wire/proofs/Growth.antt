@@ -13,11 +13,13 @@ use Rattle.ec_model.specs.HostCalls.{HostCall, Did, Waited, with_byte, calls_of,
 use Rattle.ec_wire.specs.Calls.{WireView, RoseBy, KeepsQuiet, Grows, AccessAdds, WaitAdds, Made, is_wire_step, is_failed_entry}
 use Rattle.ec_wire.proofs.Appends.{calls_of-append, runs-append, runs-nil, on_after-append, count_by-append}
 
+-- two tests that hold
 both-true : (a b : Bool) → a ≡ true → b ≡ true → (a && b) ≡ true
 both-true true true first second = refl
 both-true true false first second = second
 both-true false b first second = first
 
+-- two tests that do not hold
 both-false : (a b : Bool) → a ≡ false → b ≡ false → (a || b) ≡ false
 both-false false false first second = refl
 both-false false true first second = second

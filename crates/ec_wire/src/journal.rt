@@ -1,25 +1,27 @@
 // What happened, in order, with room for more.
 ghost use Rattle.std.specs.Prelude.{◌≡◌, ◌≤◌, ◌<◌, ◌-◌, [], ◌∷◌, ◌++◌, length, max, OnOk, OnErr, slice_get, Some};
 
+use crate::packed::{Packed, pack, unpack};
 use ec_model::Entry;
 use std::alloc::{AllocError, Global};
 use std::marker::Model;
 
-/// The entries so far, and a number of entries for which there is room.
+/// The entries so far, each in 8 bytes, and a number of entries for which there is room.
 #[derive(Drop)]
 pub struct Journal {
-    entries: Vec<Entry>,
+    entries: Vec<Packed>,
     spare: usize,
 }
 
 impl Model for Journal {
-    ghost use Rattle.std.specs.Prelude.{◌≤◌, ◌+◌, vec_len};
+    ghost use Rattle.std.specs.Prelude.{◌≤◌, ◌+◌, map, vec_len};
     ghost use Rattle.std.specs.Vec.{vec_capacity};
     ghost use Rattle.ec_wire.specs.Journals.{JournalView};
+    ghost use Rattle.ec_wire.specs.Packing.{unpacked};
 
     ghost Value = { JournalView };
 
-    ghost view = { λ journal. record { entries = journal.entries.items; spare = journal.spare } };
+    ghost view = { λ journal. record { entries = map unpacked journal.entries.items; spare = journal.spare } };
 
     ghost invariant = { λ journal. vec_len journal.entries + journal.spare ≤ vec_capacity journal.entries };
 }
@@ -52,7 +54,7 @@ impl Journal {
         requires { 1 ≤ self.old.spare }
         ensures { self.new ≡ record { entries = self.old.entries ++ e ∷ []; spare = self.old.spare - 1 } }
     {
-        match self.entries.push(e) {
+        match self.entries.push(pack(e)) {
             Ok(()) => self.spare -= 1,
             Err(_) => unreachable!(),
         }
@@ -77,6 +79,6 @@ impl Journal {
         requires { i < length self.now.entries }
         ensures { slice_get self.now.entries i ≡ Some result }
     {
-        self.entries[i]
+        unpack(self.entries[i])
     }
 }

@@ -1,6 +1,8 @@
-// What no contract says: with ample memory a journal gets its room.
+// What no contract says: with ample memory a journal gets its room, and an entry takes 8 bytes of it.
 use crate::Journal;
+use crate::packed::Packed;
 use ec_model::{Access, Entry, Event, Hurt};
+use std::mem::size_of;
 use std::test::Fail;
 
 #[test]
@@ -27,4 +29,9 @@ fn keeps_what_was_pushed(rt: HostRuntime) -> Result<(), Fail> {
     assert_eq!(rt; journal.get(0), mark);
     assert_eq!(rt; journal.get(1), step);
     Ok(())
+}
+
+#[test]
+fn keeps_an_entry_in_8_bytes(rt: HostRuntime) {
+    assert_eq!(rt; size_of::<Packed>(), 8);
 }

@@ -1,5 +1,5 @@
 // A flash in memory.
-ghost use Rattle.std.specs.Prelude.{◌≡◌, ◌≤◌, ◌<◌, ◌+◌, ◌*◌, ◌%◌, ◌^◌, is_err, if◌then◌else◌, length, replicate, IfOk};
+ghost use Rattle.std.specs.Prelude.{◌≡◌, ◌≤◌, ◌<◌, ◌+◌, ◌*◌, ◌%◌, ◌^◌, is_err, if◌then◌else◌, length, replicate, IfOk, IfErr};
 ghost use Rattle.flash_dev.specs.Flash.{and_bytes, programmed, erased, block_size, Torn};
 ghost use Rattle.flash_dev.specs.Counts.{raised_by};
 ghost use Rattle.flash_dev.specs.Calls.{no_calls, is_next_failing, after_call};
@@ -67,9 +67,23 @@ impl MemFlash {
     {
         self.fetched
     }
+
+    // Counts a call of program or erase.
+    fn begin(&mut self) -> Result<(), DevErr>
+        ensures exact { is_err result ≡ is_next_failing self.old.calls }
+        ensures failed { IfErr result (λ error. error ≡ DevErr.Failed) }
+        ensures state { self.new ≡ record self.old { calls = after_call (is_err result) self.old.calls; wear = raised_by 1 self.old.wear } }
+        ensures later { self.old.calls.faults ≤ self.new.calls.faults }
+    {
+        self.wear = self.wear.saturating_add(1);
+        if self.calls.fails(false) {
+            return Err(DevErr::Failed);
+        }
+        Ok(())
+    }
 }
 
-// In each impl below, a call fails exactly where it is listed, and changes no byte then.
+// A call fails exactly where it is listed, and changes no byte then.
 impl FlashDev for MemFlash {
     ghost seen = { memory_device };
 
@@ -107,10 +121,7 @@ impl FlashDev for MemFlash {
           fetched = self.old.fetched;
         } }
     {
-        self.wear = self.wear.saturating_add(1);
-        if self.calls.fails(false) {
-            return Err(DevErr::Failed);
-        }
+        self.begin()?;
         program_bytes(&mut self.bytes, at as usize, bytes);
         Ok(())
     }
@@ -126,10 +137,7 @@ impl FlashDev for MemFlash {
           fetched = self.old.fetched;
         } }
     {
-        self.wear = self.wear.saturating_add(1);
-        if self.calls.fails(false) {
-            return Err(DevErr::Failed);
-        }
+        self.begin()?;
         erase_block(&mut self.bytes, block as usize);
         Ok(())
     }

@@ -1,5 +1,5 @@
 -- Undisturbed calls of a wire.
-use Rattle.std.proofs.Common.{◌≡◌, refl, sym, ap, ◌∙◌, subst, ℕ, ◌≤◌, Bool, true, false, List, [], ◌∷◌, length, drop, map, Option, Some, None}
+use Rattle.std.proofs.Common.{◌≡◌, refl, sym, ap, ◌∙◌, subst, ℕ, ◌≤◌, Bool, true, false, List, [], ◌∷◌, length, drop, Option, Some, None}
 use Rattle.std.specs.List.{list_any}
 use Rattle.std.proofs.lemmas.List.{drop_at}
 use Rattle.flash_dev.specs.Told.{Changes}
@@ -11,6 +11,7 @@ use Rattle.ec_model.specs.declared.event.Entry.{Entry}
 use Rattle.ec_model.specs.declared.event.Entry.TheVariants.{Step, Mark}
 use Rattle.ec_model.specs.declared.event.Hurt.{Hurt}
 use Rattle.ec_model.specs.declared.event.Hurt.TheVariants.{Whole}
+use Rattle.ec_model.specs.Packet.{response_packet}
 use Rattle.ec_model.specs.Upset.{is_upset, is_world_event, IsUndisturbed}
 use Rattle.ec_model.specs.HostCalls.{HostCall, calls_of, on_after, on_after_entry}
 use Rattle.ec_model.specs.Run.{IsRun}
@@ -20,14 +21,13 @@ use Rattle.ec_model.specs.Handle.{handled}
 use Rattle.ec_model.specs.Send.{Heard, Silent}
 use Rattle.ec_model.specs.Syncable.{settled}
 use Rattle.ec_wire.specs.Calls.{WireView, Grows, Agrees}
-use Rattle.ec_wire.specs.Quiet.{quiet_entry}
-use Rattle.ec_wire.proofs.Calm.{or-false, calm_entry, undisturbed, determined}
+use Rattle.ec_wire.proofs.Calm.{or-false, calm_entry, undisturbed}
 use Rattle.host_runs.specs.Calm.{CallsLead}
-use Rattle.host_runs.specs.Exchange.{ShowsIdle}
+use Rattle.host_runs.specs.Exchange.{ShowsIdle, IsExchange}
 use Rattle.host_runs.specs.Served.{IsPlain, Serves, Settles}
 use Rattle.host_runs.proofs.CalmRun.{calm_lead}
 use Rattle.host_runs.proofs.LpcSend.{lpc-calm, lpc-quiet}
-use Rattle.host_runs.proofs.LpcExchange.{lpc-exchange}
+use Rattle.host_runs.proofs.LpcExchange.{exchange-run}
 use Rattle.host_runs.proofs.LpcEnds.{lpc-ends}
 use Rattle.host_runs.proofs.OffLead.{lpc-off}
 use Rattle.host_runs.proofs.Rests.{ends-rest}
@@ -67,6 +67,7 @@ step-on event answer meant seen hurt on whole host = rw whole (whole-on event ho
   whole-on (PowerEvent level) host = cc
   whole-on (PinEvent level) host = refl
 
+-- undisturbed entries leave the power
 calm-on : (entries : List Entry) (on : Bool) → IsUndisturbed entries → on_after entries on ≡ on
 calm-on [] on calm = refl
 calm-on (Step event answer meant seen hurt ∷ entries) on calm =
@@ -84,17 +85,20 @@ data OnOrOff (table : Table) : Type 0 where
   IsOff : table.power ≡ Off → OnOrOff table
   IsOn : (awake : Awake) → table.power ≡ On awake → OnOrOff table
 
+-- by its power
 on-or-off : (table : Table) (power : Power) → table.power ≡ power → OnOrOff table
 on-or-off table Off same = IsOff same
 on-or-off table (On awake) same = IsOn awake same
 
--- what a law says of a send to a controller that is on, to one that is off, and of one that is brought to rest
+-- what a law says of a send to a controller that is on
 abbrev ServesOn : BusKind → List ℕ → Heard → List HostCall → Type 0
 ServesOn bus packet heard calls = (told : Table) (awake : Awake) (left : Table) → Valid told → told.power ≡ On awake → told.kind ≡ bus → CallsLead told calls left → Serves packet (settled told) heard left
 
+-- what it says of one to a controller that is off
 abbrev SilentOff : Heard → List HostCall → Type 0
 SilentOff heard calls = (told left : Table) → told.power ≡ Off → CallsLead told calls left → heard ≡ Silent
 
+-- what it says of calls that bring a bus to rest
 abbrev SettlesOn : BusKind → List HostCall → Type 0
 SettlesOn bus calls = (told : Table) (awake : Awake) (left : Table) → Valid told → told.power ≡ On awake → told.kind ≡ bus → CallsLead told calls left → Settles (settled told) left
 
@@ -102,18 +106,22 @@ SettlesOn bus calls = (told : Table) (awake : Awake) (left : Table) → Valid to
 off-on : (old : WireView) (told : Table) → told.power ≡ Off → Agrees old.bus old.on told → old.on ≡ false
 off-on old told off agrees = sym agrees.on_is ∙ ap (λ (power : Power). is_on power) off
 
+-- an undisturbed send, by whether the controller is on
 serves-by : (bus : BusKind) (packet : List ℕ) (heard : Heard) (old : WireView) (told left : Table) (calls : List HostCall) → ServesOn bus packet heard calls → OnOrOff told → old.bus ≡ bus → Agrees old.bus old.on told → old.on ≡ true → CallsLead told calls left → Serves packet (settled told) heard left
 serves-by bus packet heard old told left calls law (IsOff off) kind agrees on lead = let dark = off-on old told off agrees in absurd (cc)
 serves-by bus packet heard old told left calls law (IsOn awake is) kind agrees on lead = law told awake left agrees.valid is (agrees.kind_is ∙ kind) lead
 
+-- the same on a wire
 serves-calm : (bus : BusKind) (packet : List ℕ) (heard : Heard) (old new : WireView) → old.bus ≡ bus → (sends : Sends bus packet heard old new) → ServesOn bus packet heard (calls_of sends.added) → ServesWhereCalm packet heard old new
 serves-calm bus packet heard old new kind sends law =
     changes-map _ _ old.table new.table (λ (told left : Table) (run : IsRun told sends.added left) (agrees : Agrees old.bus old.on told) (on : old.on ≡ true) (calm : IsUndisturbed (since old new)).
     serves-by bus packet heard old told left (calls_of sends.added) law (on-or-off told told.power refl) kind agrees on (lead-since sends.added old new told left sends.grows run calm)) sends.grows.run
 
+-- a send that was served heard a reply
 caused-on : (packet : List ℕ) (heard : Heard) (table left : Table) (on : Bool) → Serves packet table heard left → IsCaused heard on
 caused-on packet heard table left on serves = rw serves.heard_is tt
 
+-- what an undisturbed send heard, by whether the controller is on
 caused-by : (bus : BusKind) (packet : List ℕ) (heard : Heard) (old new : WireView) (told left : Table) (calls : List HostCall) → ServesOn bus packet heard calls → SilentOff heard calls → OnOrOff told → old.bus ≡ bus → Agrees old.bus old.on told → new.on ≡ old.on → CallsLead told calls left → IsCaused heard new.on
 caused-by bus packet heard old new told left calls law silence (IsOff off) kind agrees on lead =
     let silent = silence told left off lead in
@@ -121,15 +129,18 @@ caused-by bus packet heard old new told left calls law silence (IsOff off) kind 
 caused-by bus packet heard old new told left calls law silence (IsOn awake is) kind agrees on lead =
     caused-on packet heard (settled told) left new.on (law told awake left agrees.valid is (agrees.kind_is ∙ kind) lead)
 
+-- the same on a wire
 caused-calm : (bus : BusKind) (packet : List ℕ) (heard : Heard) (old new : WireView) → old.bus ≡ bus → (sends : Sends bus packet heard old new) → ServesOn bus packet heard (calls_of sends.added) → SilentOff heard (calls_of sends.added) → CausedWhereCalm heard old new
 caused-calm bus packet heard old new kind sends law silence =
     changes-map _ _ old.table new.table (λ (told left : Table) (run : IsRun told sends.added left) (agrees : Agrees old.bus old.on told) (calm : IsUndisturbed (since old new)).
     caused-by bus packet heard old new told left (calls_of sends.added) law silence (on-or-off told told.power refl) kind agrees (on-since sends.added old new sends.grows calm) (lead-since sends.added old new told left sends.grows run calm)) sends.grows.run
 
+-- undisturbed calls that bring a bus to rest, by whether the controller is on
 settles-by : (bus : BusKind) (old : WireView) (told left : Table) (calls : List HostCall) → SettlesOn bus calls → OnOrOff told → old.bus ≡ bus → Agrees old.bus old.on told → old.on ≡ true → CallsLead told calls left → Settles (settled told) left
 settles-by bus old told left calls law (IsOff off) kind agrees on lead = let dark = off-on old told off agrees in absurd (cc)
 settles-by bus old told left calls law (IsOn awake is) kind agrees on lead = law told awake left agrees.valid is (agrees.kind_is ∙ kind) lead
 
+-- the same on a wire
 settles-calm : (bus : BusKind) (old new : WireView) → old.bus ≡ bus → (quiets : Quiets bus old new) → SettlesOn bus (calls_of quiets.added) → SettlesWhereCalm old new
 settles-calm bus old new kind quiets law =
     changes-map _ _ old.table new.table (λ (told left : Table) (run : IsRun told quiets.added left) (agrees : Agrees old.bus old.on told) (on : old.on ≡ true) (calm : IsUndisturbed (since old new)).
@@ -150,12 +161,8 @@ lpc-caused packet heard old new kind plain short sends =
 pub lpc-exchanged : (packet : List ℕ) (heard : Heard) (old new : WireView) → IsPlain packet → length packet ≤ 256 → Sends Lpc packet heard old new → ExchangesWhereCalm packet heard old new
 lpc-exchanged packet heard old new plain short sends =
     changes-map _ _ old.table new.table (λ (told left : Table) (run : IsRun told sends.added left) (agrees : Agrees old.bus old.on told) (calm : IsUndisturbed (since old new)) (awake : Awake) (status : ℕ) (after : Core) (result : ℕ) (body : List ℕ) (on : told.power ≡ On awake) (shows : ShowsIdle status awake.bus) (same : handled (core_of told awake) 256 packet ≡ Answered after result body).
-    let exchanges = lpc-exchange told awake status packet (calls_of sends.added) heard left after result body agrees.valid on shows plain short sends.sent (lead-since sends.added old new told left sends.grows run calm) same in
-    let entries = since-added sends.added old new sends.grows in
-    record {
-      entries = entries ∙ determined sends.added sends.grows.steps (added-calm sends.added old new sends.grows calm) ∙ ap (λ (calls : List HostCall). map quiet_entry calls) exchanges.calls_are;
-      exchanges = rw entries exchanges;
-    }) sends.grows.run
+    subst (λ (entries : List Entry). IsExchange status packet (response_packet result body) after entries heard left) (sym (since-added sends.added old new sends.grows))
+    (exchange-run told awake status packet sends.added heard left after result body agrees.valid on shows plain short sends.sent run (added-calm sends.added old new sends.grows calm) sends.grows.steps same)) sends.grows.run
 
 -- LPC: an undisturbed poll
 pub lpc-settles : (old new : WireView) → old.bus ≡ Lpc → Quiets Lpc old new → SettlesWhereCalm old new

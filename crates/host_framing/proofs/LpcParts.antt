@@ -11,6 +11,7 @@ use Rattle.host_framing.specs.Parts.{PollsWaited, PollsSpaced, WritesPorts, Read
 use Rattle.ec_wire.proofs.Growth.{made-then, made-as}
 use Rattle.host_framing.proofs.PollLemmas.{port_reads-append}
 
+-- the packet was written, and the command byte
 pub asks-written : (packet bytes : List ℕ) (got : ℕ) (old first second new : WireView) → bytes ≡ packet → PollsSpaced true old first → WritesPorts bytes first second → Made (Did (PortOut 0x204 0xDA) got ∷ []) second new → LpcAsks packet true old new
 asks-written packet bytes got old first second new same polls writes commanded =
     let made = made-then _ _ _ _ _ (made-then _ _ _ _ _ polls.made writes.made) commanded in
@@ -37,28 +38,35 @@ named-append (a ∷ b ∷ c ∷ d ∷ []) body size = absurd (omega (arith, size
 named-append (a ∷ b ∷ c ∷ d ∷ e ∷ []) body size = absurd (omega (arith, size))
 named-append (a ∷ b ∷ c ∷ d ∷ e ∷ f ∷ rest) body size = refl
 
+-- a length of a header and as many bytes behind it
 sized : (n size : ℕ) → size ≡ 8 + n → (nat_le 8 size && (size == 8 + n)) ≡ true
 sized n size same = grind (arith, leb_tells, eqb_tells)
 
+-- just a header was read
 read_off : (on : Bool) (bytes : List ℕ) → on ≡ false → length bytes ≡ 8 → is_all_read on bytes ≡ true
 read_off false bytes off size = sized 0 (length bytes) size
 read_off true bytes off size = cc
 
+-- a header was read, and the body that it names
 read_on : (on : Bool) (bytes : List ℕ) → on ≡ true → length bytes ≡ 8 + response_length bytes → is_all_read on bytes ≡ true
 read_on true bytes on size = sized (response_length bytes) (length bytes) size
 read_on false bytes on size = cc
 
+-- what is heard where the host does not read on
 heard_off : (on : Bool) (heard : Heard) → on ≡ false → Bad ≡ heard_if on heard
 heard_off false heard off = refl
 heard_off true heard off = cc
 
+-- what is heard where the host reads on
 heard_on : (on : Bool) (heard : Heard) → on ≡ true → heard ≡ heard_if on heard
 heard_on true heard on = refl
 heard_on false heard on = cc
 
+-- a body for which the window has no room
 too_long : (n : ℕ) → 248 < n → nat_le n 248 ≡ false
 too_long n long = grind (arith, leb_tells)
 
+-- a body for which the window has room
 fits : (n : ℕ) → n ≤ 248 → nat_le n 248 ≡ true
 fits n short = grind (arith, leb_tells)
 
@@ -97,15 +105,18 @@ pub sends-by : (packet : List ℕ) (calls : List HostCall) (heard : Heard) (old 
 sends-by packet calls heard old new sent made =
     record { added = made.added; grows = made.grows; sent = subst (λ (xs : List HostCall). LpcSend packet xs heard) (sym made.calls_are) sent }
 
+-- a send that found the bus busy
 pub sends-blocked : (packet : List ℕ) (old new : WireView) → LpcAsks packet false old new → Sends Lpc packet Silent old new
 sends-blocked packet old new asks = sends-by packet asks.calls Silent old new (LpcWasBlocked asks.asked refl) asks.made
 
+-- a send whose request was not served
 pub sends-unserved : (packet : List ℕ) (old first new : WireView) → LpcAsks packet true old first → PollsWaited false first new → Sends Lpc packet Silent old new
 sends-unserved packet old first new asks polls =
     sends-by packet (asks.calls ++ waited_reads status_in polls.statuses) Silent old new
     (LpcWasUnserved (record { first = asks.calls; statuses = polls.statuses; asked = asks.asked; busy = polls.polled; made = refl }) refl)
     (made-then _ _ _ _ _ asks.made polls.made)
 
+-- a send whose response was read
 pub sends-served : (packet : List ℕ) (heard : Heard) (old first second new : WireView) → LpcAsks packet true old first → PollsWaited true first second → LpcHears heard second new → Sends Lpc packet heard old new
 sends-served packet heard old first second new asks polls hears =
     sends-by packet (asks.calls ++ waited_reads status_in polls.statuses ++ Did (PortIn 0x200) hears.outcome ∷ port_reads 0x800 hears.bytes) heard old new
@@ -122,6 +133,7 @@ sends-served packet heard old first second new asks polls hears =
     }))
     (made-then _ _ _ _ _ (made-then _ _ _ _ _ asks.made polls.made) hears.made)
 
+-- a poll brings the bus to rest
 pub quiets-polled : (ready : Bool) (old new : WireView) → PollsSpaced ready old new → Quiets Lpc old new
 quiets-polled ready old new polls =
     let quiet : LpcQuiet (calls_of polls.made.added) = record { statuses = polls.statuses; ready = ready; polled = polls.polled; made = polls.made.calls_are } in

@@ -15,17 +15,22 @@ use ec_model::Access;
 use ec_packet::Packet;
 use ec_wire::Wire;
 
-// The window's first port, that of the status and the command, and that of the result byte.
+// The first port of the window.
 const WINDOW: u16 = 0x800;
 
-const STATUS: u16 = 0x204;
+// A look at the status.
+const LOOK: Access = Access::PortIn { port: 0x204 };
 
-const RESULT: u16 = 0x200;
+// The command byte, which has the controller serve the packet in the window.
+const COMMAND: Access = Access::PortOut {
+    port: 0x204,
+    byte: 0xDA,
+};
 
-// Has the controller serve the packet in the window.
-const PROTOCOL_3: u8 = 0xDA;
+// A read of the result byte.
+const RESULT: Access = Access::PortIn { port: 0x200 };
 
-// The most bytes of a body that the window has room for.
+// The most bytes of a body for which the window has room behind a header.
 const LARGEST_BODY: u16 = 248;
 
 // Whether a status says busy.
@@ -43,7 +48,7 @@ fn poll_waited<W: Wire>(w: &mut W) -> bool
 {
     for turn in 0..4u8 {
         waited(w);
-        let status = did(w, Access::PortIn { port: STATUS });
+        let status = did(w, LOOK);
         if !busy(status) {
             return true;
         }
@@ -57,7 +62,7 @@ fn poll_spaced<W: Wire>(w: &mut W) -> bool
     ensures polls { PollsSpaced result (W.view w.old) (W.view w.new) }
     ensures room { (W.view w.old).spare ≤ (W.view w.new).spare + 9 }
 {
-    let status = did(w, Access::PortIn { port: STATUS });
+    let status = did(w, LOOK);
     if !busy(status) {
         return true;
     }
@@ -96,7 +101,7 @@ fn read_window<W: Wire>(w: &mut W, port: u16, count: u16, reply: &mut Packet)
     }
 }
 
-// The first two steps of a send.
+// Waits until the bus is not busy, and writes the packet and the command byte. Whether that came about.
 fn ask_lpc<W: Wire>(w: &mut W, packet: &Packet) -> bool
     requires short { length packet.now ≤ 256 }
     requires room { 266 ≤ (W.view w.old).spare }
@@ -107,13 +112,7 @@ fn ask_lpc<W: Wire>(w: &mut W, packet: &Packet) -> bool
         return false;
     }
     write_window(w, packet.as_slice());
-    did(
-        w,
-        Access::PortOut {
-            port: STATUS,
-            byte: PROTOCOL_3,
-        },
-    );
+    did(w, COMMAND);
     true
 }
 
@@ -125,13 +124,13 @@ fn named_length(bytes: &[u8]) -> u16
     LittleEndian::read_u16(&bytes[4..])
 }
 
-// The last two steps of a send.
+// Reads the result byte and the response, as much of it as the window can hold.
 fn hear_lpc<W: Wire>(w: &mut W, reply: &mut Packet) -> Raw
     requires { 257 ≤ (W.view w.old).spare }
     ensures hears { LpcHears (heard_of result reply.new) (W.view w.old) (W.view w.new) }
     ensures room { (W.view w.old).spare ≤ (W.view w.new).spare + 257 }
 {
-    let outcome = did(w, Access::PortIn { port: RESULT });
+    let outcome = did(w, RESULT);
     reply.clear();
     read_window(w, WINDOW, 8, reply);
     let named = named_length(reply.as_slice());
@@ -154,12 +153,12 @@ pub fn quiet_lpc<W: Wire>(w: &mut W)
     poll_spaced(w);
 }
 
-// The steps of a send.
+// The steps of a send, each by what was seen so far.
 fn steps_lpc<W: Wire>(w: &mut W, packet: &Packet, reply: &mut Packet) -> Raw
     requires room { 1500 ≤ (W.view w.old).spare }
     requires short { length packet.now ≤ 256 }
     ensures sends { Sends LpcKind packet.now (heard_of result reply.new) (W.view w.old) (W.view w.new) }
-    ensures room { (W.view w.old).spare ≤ (W.view w.new).spare + 1200 }
+    ensures room { (W.view w.old).spare ≤ (W.view w.new).spare + 531 }
 {
     if !ask_lpc(w, packet) {
         return Raw::Silent;
@@ -183,7 +182,7 @@ pub fn send_lpc<W: Wire>(w: &mut W, packet: &Packet, reply: &mut Packet) -> Raw
     ensures exchange { ExchangesWhereCalm packet.now (heard_of result reply.new) (W.view w.old) (W.view w.new) }
     ensures cause { CausedWhereCalm (heard_of result reply.new) (W.view w.old) (W.view w.new) }
     ensures rests { RestsBehind (W.view w.old) (W.view w.new) }
-    ensures room { (W.view w.old).spare ≤ (W.view w.new).spare + 1200 }
+    ensures room { (W.view w.old).spare ≤ (W.view w.new).spare + 531 }
 {
     steps_lpc(w, packet, reply)
 }

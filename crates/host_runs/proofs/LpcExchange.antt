@@ -1,20 +1,28 @@
 -- An undisturbed send from an LPC bus that is not busy, call by call.
-use Rattle.std.proofs.Common.{◌≡◌, refl, sym, ap, ◌∙◌, subst, ℕ, ◌≤◌, Bool, true, false, List, [], ◌∷◌, ◌++◌, length, replicate, Some}
+use Rattle.std.proofs.Common.{◌≡◌, refl, sym, ap, ◌∙◌, subst, ℕ, ◌≤◌, Bool, true, false, List, [], ◌∷◌, ◌++◌, length, replicate, map, Some}
+use Rattle.std.specs.List.{list_all}
 use Rattle.ec_types.specs.declared.bus.BusKind.TheVariants.{Lpc}
 use Rattle.ec_model.specs.declared.event.Access.TheVariants.{PortOut, PortIn}
+use Rattle.ec_model.specs.declared.event.Entry.{Entry}
 use Rattle.ec_model.specs.Packet.{response_packet}
 use Rattle.ec_model.specs.Bus.{BusState, OnLpc, OnI2c, OnSpi, is_busy, kind_of, low_status}
-use Rattle.ec_model.specs.HostCalls.{HostCall, Did}
-use Rattle.ec_model.specs.Send.{Heard, poll_end, waited_reads, spaced_reads, status_in, port_reads, port_writes, LpcServed, LpcSend, LpcWasBlocked, LpcWasUnserved, LpcWasServed}
+use Rattle.ec_model.specs.HostCalls.{HostCall, Did, calls_of}
+use Rattle.ec_model.specs.Send.{Heard, poll_end, waited_reads, spaced_reads, status_in, port_reads, port_writes, LpcServed, Send, LpcSend, LpcWasBlocked, LpcWasUnserved, LpcWasServed}
 use Rattle.ec_model.specs.Table.{Table, Awake, On, Core, Valid, core_of, table_of}
 use Rattle.ec_model.specs.Answer.{Outcome, Answered}
 use Rattle.ec_model.specs.Handle.{handled, asked}
+use Rattle.ec_model.specs.Run.{IsRun}
+use Rattle.ec_model.specs.Upset.{IsUndisturbed}
 use Rattle.ec_model.proofs.ShortRows.{IsShort}
 use Rattle.ec_model.proofs.ValidRows.{IsCoreValid}
 use Rattle.ec_model.proofs.ValidStep.{row_of-short}
+use Rattle.ec_wire.specs.Calls.{is_wire_step}
+use Rattle.ec_wire.specs.Quiet.{quiet_entry}
+use Rattle.ec_wire.proofs.Calm.{determined}
 use Rattle.host_runs.specs.Calm.{CallsLead}
 use Rattle.host_runs.specs.Served.{IsPlain}
-use Rattle.host_runs.specs.Exchange.{ShowsIdle, lpc_exchange, Exchanges}
+use Rattle.host_runs.specs.Exchange.{ShowsIdle, lpc_exchange, Exchanges, IsExchange}
+use Rattle.host_runs.proofs.CalmRun.{calm_lead}
 use Rattle.host_runs.proofs.LpcLead.{lpc, ready-lead}
 use Rattle.host_runs.proofs.LpcSend.{served_calls, answers-by, hear-lead, bus-facts, as-table, lead-at, lpc-calm, regroup}
 
@@ -30,6 +38,7 @@ record IsOnce (table : Table) (status : ℕ) (statuses : List ℕ) (calls : List
   pub once : statuses ≡ status ∷ []
   pub lead : CallsLead table calls new
 
+-- a poll of a bus that is not busy sees its status once
 once-idle : (core : Core) (window : List ℕ) (status outcome : ℕ) (statuses : List ℕ) (ready : Bool) (calls : List HostCall) (new : Table) → is_busy status ≡ false → poll_end is_busy 5 statuses ≡ Some ready →
     CallsLead (table_of core (lpc window status outcome)) (spaced_reads status_in statuses ++ calls) new → IsOnce (table_of core (lpc window status outcome)) status statuses calls new
 once-idle core window status outcome [] ready calls new idle polled lead = absurd (cc)
@@ -60,6 +69,7 @@ served-exchange core after window status outcome result body packet calls heard 
 fits-by : (core after : Core) (packet : List ℕ) (result : ℕ) (body : List ℕ) → IsCoreValid core → handled core 256 packet ≡ Answered after result body → length body ≤ 248
 fits-by core after packet result body valid same = subst (λ (outcome : Outcome). IsShort outcome) same (row_of-short core (asked core packet) valid)
 
+-- the same from any bus that shows a status that is not busy
 by-bus : (core after : Core) (bus : BusState) (status result : ℕ) (body packet : List ℕ) (calls : List HostCall) (heard : Heard) (new : Table) → Valid (table_of core bus) → length body ≤ 248 → ShowsIdle status bus → IsPlain packet → length packet ≤ 256 →
     handled core 256 packet ≡ Answered after result body → LpcServed packet calls heard → CallsLead (table_of core bus) calls new → Exchanges status packet (response_packet result body) after calls heard new
 by-bus core after (OnLpc state) status result body packet calls heard new valid fits shows plain short same served lead =
@@ -93,3 +103,10 @@ lpc-exchange table awake status packet calls heard new after result body valid o
     let table_is = as-table table awake on facts.kind in
     by-bus (core_of table awake) after awake.bus status result body packet calls heard new (subst (λ (t : Table). Valid t) table_is valid)
     (fits-by (core_of table awake) after packet result body facts.core same) shows plain short same served (lead-at table awake calls new table_is lead)
+
+-- the same of the entries that it added
+pub exchange-run : (table : Table) (awake : Awake) (status : ℕ) (packet : List ℕ) (added : List Entry) (heard : Heard) (new : Table) (after : Core) (result : ℕ) (body : List ℕ) → Valid table → table.power ≡ On awake → ShowsIdle status awake.bus → IsPlain packet → length packet ≤ 256 →
+    Send Lpc added packet heard → IsRun table added new → IsUndisturbed added → list_all is_wire_step added ≡ true → handled (core_of table awake) 256 packet ≡ Answered after result body → IsExchange status packet (response_packet result body) after added heard new
+exchange-run table awake status packet added heard new after result body valid on shows plain short sent run calm steps same =
+    let exchanges = lpc-exchange table awake status packet (calls_of added) heard new after result body valid on shows plain short sent (calm_lead table added new calm run) same in
+    record { entries = determined added steps calm ∙ ap (λ (calls : List HostCall). map quiet_entry calls) exchanges.calls_are; exchanges = exchanges }

@@ -45,9 +45,11 @@ pub record Idled (table : Table) (ready : Bool) (calls : List HostCall) (new : T
   pub ended : ready ≡ true
   pub lead : CallsLead (table_of core (lpc window status outcome)) calls new
 
+-- a table on which no request waits is settled
 settled-idle : (core : Core) (window : List ℕ) (status outcome : ℕ) → (status == 0x06) ≡ false → settled (table_of core (lpc window status outcome)) ≡ table_of core (lpc window status outcome)
 settled-idle core window status outcome other = rw other refl
 
+-- a table on which a request waits, once it was served
 settled-served : (core : Core) (window : List ℕ) (outcome : ℕ) (result : Outcome) → handled core 256 window ≡ result →
     settled (table_of core (lpc window 0x06 outcome)) ≡ (after_outcome core (record { state = lpc window 0x06 outcome; answer = 0 }) 0 result).table
 settled-served core window outcome result same = ap (λ (r : Outcome). (after_outcome core (record { state = lpc window 0x06 outcome; answer = 0 }) 0 r).table) same
@@ -74,6 +76,7 @@ served-lead core window outcome next bytes ready calls new Restarts same polled 
     let end = ready-lead fresh (replicate 256 0) 0 0 3 next bytes ready calls new refl polled moved in
     record { core = fresh; window = replicate 256 0; status = 0; outcome = 0; same = settled-served core window outcome _ same; idle = refl; ended = end.ended; lead = end.lead }
 
+-- a poll while a request waits
 busy-lead : (core : Core) (window : List ℕ) (outcome : ℕ) (statuses : List ℕ) (ready : Bool) (calls : List HostCall) (new : Table) → poll_end is_busy 5 statuses ≡ Some ready →
     CallsLead (table_of core (lpc window 0x06 outcome)) (spaced_reads status_in statuses ++ calls) new → Idled (settled (table_of core (lpc window 0x06 outcome))) ready calls new
 busy-lead core window outcome [] ready calls new polled lead = absurd (cc)
@@ -86,9 +89,11 @@ busy-lead core window outcome (byte ∷ next ∷ bytes) ready calls new polled l
     let ended = rw seen at polled in
     served-lead core window outcome next bytes ready calls new (handled core 256 window) refl ended lead.1
 
+-- a valid status is one of three
 which : (status : ℕ) → ((status == 0x00) || (status == 0x01) || (status == 0x06)) ≡ true → (status ≡ 0) ⊎ ((status ≡ 1) ⊎ (status ≡ 6))
 which status shown = grind (arith, eqb_tells)
 
+-- a poll, by the status
 by-status : (core : Core) (window : List ℕ) (status outcome : ℕ) (statuses : List ℕ) (ready : Bool) (calls : List HostCall) (new : Table) → (status ≡ 0) ⊎ ((status ≡ 1) ⊎ (status ≡ 6)) → poll_end is_busy 5 statuses ≡ Some ready →
     CallsLead (table_of core (lpc window status outcome)) (spaced_reads status_in statuses ++ calls) new → Idled (settled (table_of core (lpc window status outcome))) ready calls new
 by-status core window status outcome statuses ready calls new (inl none) polled lead = idle-lead core window status outcome statuses ready calls new (rw none refl) (rw none refl) polled lead
@@ -110,6 +115,7 @@ whole-leaves : (table : Table) (event : Event) (power : Power) → EventLeavesBy
 whole-leaves table event Off = refl
 whole-leaves table event (On awake) = refl
 
+-- a table is valid behind a tick, and without one
 settled-by-valid : (table : Table) (waits : Bool) → Valid table → Valid (if waits then (stepped table Tick).table else table)
 settled-by-valid table true valid = step-valid table (Step Tick (stepped table Tick).answer 0 0 Whole) (stepped table Tick).table valid (whole-leaves table Tick table.power)
 settled-by-valid table false valid = valid
@@ -157,9 +163,11 @@ hear-lead after window status outcome body rest bytes heard new size front short
     let judged : heard_with outcome bytes ≡ Reply reply = ap (λ (n : ℕ). heard_with n bytes) lead.0 ∙ ap (λ (xs : List ℕ). heard_with (low_status reply) xs) whole.0 ∙ heard-response status body (omega (arith, short)) in
     record { outcome_is = lead.0; bytes_are = whole.0; heard_is = heard_is ∙ ap (λ (on : Bool). heard_if on (heard_with outcome bytes)) whole.1 ∙ judged; leaves = read.1 }
 
+-- five lists, grouped otherwise
 pub regroup : (a b c d : List HostCall) (x : HostCall) → a ++ b ++ x ∷ [] ++ c ++ d ≡ a ++ (b ++ (x ∷ (c ++ d)))
 regroup a b c d x = simp append_assoc
 
+-- four lists, grouped otherwise
 regroup3 : (a b c : List HostCall) (x : HostCall) → a ++ b ++ x ∷ [] ++ c ≡ a ++ (b ++ (x ∷ (c ++ [])))
 regroup3 a b c x = simp (append_assoc, append-nil)
 
@@ -168,6 +176,7 @@ core-valid : (core : Core) (window : List ℕ) (status outcome : ℕ) → Valid 
 core-valid core window status outcome valid =
     record { size = valid.size; all_with_ro = valid.power.all_with_ro; jumped = valid.power.jumped; erase = valid.power.erase; hash = valid.power.hash }
 
+-- the window of a valid table has 256 bytes
 window-whole : (core : Core) (window : List ℕ) (status outcome : ℕ) → Valid (table_of core (lpc window status outcome)) → length window ≡ 256
 window-whole core window status outcome valid = valid.power.bus.0
 
@@ -196,12 +205,15 @@ record Asked (core : Core) (packet gots : List ℕ) (got : ℕ) (statuses : List
   pub short : length body ≤ 248
   pub answers : Answers after status body packet gots got statuses ready tail new
 
+-- the window keeps its length
 overwritten-size : (bytes window : List ℕ) → length window ≡ 256 → length bytes ≤ 256 → length (overwritten 0 bytes window) ≡ 256
 overwritten-size bytes window size short = omega (arith, length-append bytes (drop (0 + length bytes) window), length-drop (0 + length bytes) window, size, short)
 
+-- the packet at the front of the window is the request
 handled-window : (core : Core) (packet window : List ℕ) → IsPlain packet → handled core 256 (overwritten 0 packet window) ≡ handled core 256 packet
 handled-window core packet window plain = ap (λ (f : _). row_of core 256 (admitted_from core f)) (framing-append packet (drop (0 + length packet) window) plain.header plain.whole)
 
+-- a send from a bus that is not busy, up to where its response stands in the window
 pub answers-by : (core after : Core) (window : List ℕ) (status outcome result : ℕ) (body packet gots : List ℕ) (got : ℕ) (statuses : List ℕ) (ready : Bool) (tail : List HostCall) (new : Table) →
     length window ≡ 256 → is_busy status ≡ false → IsPlain packet → length packet ≤ 256 → length gots ≡ length packet → poll_end is_busy 4 statuses ≡ Some ready →
     handled core 256 packet ≡ Answered after result body → length body ≤ 248 → CallsLead (table_of core (lpc window status outcome)) (served_calls packet gots got statuses tail) new → Answers after result body packet gots got statuses ready tail new
@@ -223,6 +235,7 @@ answers-by core after window status outcome result body packet gots got statuses
       lead = served.lead;
     }
 
+-- the same, by what the request is answered
 asked-by : (core : Core) (window : List ℕ) (status outcome : ℕ) (packet gots : List ℕ) (got : ℕ) (statuses : List ℕ) (ready : Bool) (tail : List HostCall) (new : Table) (result : Outcome) →
     length window ≡ 256 → is_busy status ≡ false → IsPlain packet → length packet ≤ 256 → length gots ≡ length packet → poll_end is_busy 4 statuses ≡ Some ready →
     handled core 256 packet ≡ result → IsAnswer result → IsShort result → CallsLead (table_of core (lpc window status outcome)) (served_calls packet gots got statuses tail) new → Asked core packet gots got statuses ready tail new
@@ -237,6 +250,7 @@ asked-by core window status outcome packet gots got statuses ready tail new (Ans
       answers = answers-by core after window status outcome result body packet gots got statuses ready tail new size idle plain short each polled same fits lead;
     }
 
+-- the same behind the first poll
 asked-from : (table : Table) (packet gots : List ℕ) (got : ℕ) (statuses : List ℕ) (first ready : Bool) (tail : List HostCall) (new : Table) → Valid table → IsPlain packet → length packet ≤ 256 → length gots ≡ length packet → poll_end is_busy 4 statuses ≡ Some ready →
     (at : Idled table first (served_calls packet gots got statuses tail) new) → Asked at.core packet gots got statuses ready tail new
 asked-from table packet gots got statuses first ready tail new valid plain short each polled at =
@@ -271,12 +285,15 @@ served-whole table packet gots got statuses first outcome bytes heard new valid 
 pub lead-at : (table : Table) (awake : Awake) (calls : List HostCall) (new : Table) → table ≡ table_of (core_of table awake) awake.bus → CallsLead table calls new → CallsLead (table_of (core_of table awake) awake.bus) calls new
 lead-at table awake calls new same lead = subst (λ (t : Table). CallsLead t calls new) same lead
 
+-- the settled table, with its core and its bus apart
 settled-by-awake : (table : Table) (awake : Awake) → table ≡ table_of (core_of table awake) awake.bus → settled (table_of (core_of table awake) awake.bus) ≡ settled table
 settled-by-awake table awake same = ap (λ (t : Table). settled t) (sym same)
 
+-- a settled table is valid
 pub settled-valid : (table : Table) (awake : Awake) → table ≡ table_of (core_of table awake) awake.bus → Valid table → Valid (settled (table_of (core_of table awake) awake.bus))
 settled-valid table awake same valid = settled-by-valid (table_of (core_of table awake) awake.bus) _ (subst (λ (t : Table). Valid t) same valid)
 
+-- the first poll of a send from a valid table
 idled-at : (table : Table) (awake : Awake) (statuses : List ℕ) (ready : Bool) (calls tail : List HostCall) (new : Table) → Valid table → table.power ≡ On awake → table.kind ≡ Lpc → kind_of awake.bus ≡ table.kind → IsBusValid awake.bus → poll_end is_busy 5 statuses ≡ Some ready →
     calls ≡ spaced_reads status_in statuses ++ tail → CallsLead table calls new → Idled (settled (table_of (core_of table awake) awake.bus)) ready tail new
 idled-at table awake statuses ready calls tail new valid on lpc_kind kind bus polled grouped lead =
@@ -290,11 +307,13 @@ pub record BusFacts (table : Table) (awake : Awake) : Type 0 where
   pub valid : IsBusValid awake.bus
   pub core : IsCoreValid (core_of table awake)
 
+-- a valid table that is on has a valid bus and a valid core
 pub bus-facts : (table : Table) (awake : Awake) → Valid table → table.power ≡ On awake → BusFacts table awake
 bus-facts table awake valid on =
     let awake_valid = rw on at valid.power in
     record { kind = awake_valid.bus_kind; valid = awake_valid.bus; core = record { size = valid.size; all_with_ro = awake_valid.all_with_ro; jumped = awake_valid.jumped; erase = awake_valid.erase; hash = awake_valid.hash } }
 
+-- an undisturbed send is served on the settled table
 pub lpc-calm : (table : Table) (awake : Awake) (packet : List ℕ) (calls : List HostCall) (heard : Heard) (new : Table) → Valid table → table.power ≡ On awake → table.kind ≡ Lpc → IsPlain packet → length packet ≤ 256 →
     LpcSend packet calls heard → CallsLead table calls new → Serves packet (settled table) heard new
 lpc-calm table awake packet calls heard new valid on kind plain short (LpcWasBlocked blocked silent) lead =
@@ -330,6 +349,7 @@ six-or status true same idle =
       eq-of : (n : ℕ) → (n == 0x06) ≡ true → n ≡ 6
       eq-of n same = grind (arith, eqb_tells)
 
+-- the same as a test
 idle-is-not-six : (status : ℕ) → is_busy status ≡ false → (status == 0x06) ≡ false
 idle-is-not-six status idle = six-or status (status == 0x06) refl idle
 

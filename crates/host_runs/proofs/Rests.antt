@@ -25,36 +25,44 @@ use Rattle.ec_model.specs.Step.{After, Work, Rest, Serve, EraseNext, HashNext, B
 use Rattle.ec_model.proofs.ValidEvents.{step-valid}
 use Rattle.host_runs.specs.Resting.{is_waiting, Rests, is_port_read, ends_resting}
 
+-- no request waits on a bus
 abbrev rests : BusState → Type 0
 rests bus = is_some (due_at_tick bus) ≡ false
 
+-- a bus with its reply
 replied-rests : (packet : List ℕ) (bus : BusState) → rests (replied packet bus)
 replied-rests packet (OnLpc state) = refl
 replied-rests packet (OnI2c state) = refl
 replied-rests packet (OnSpi state) = refl
 
+-- a bus after a boot
 fresh-rests : (kind : BusKind) → rests (fresh_bus kind)
 fresh-rests Lpc = refl
 fresh-rests I2c = refl
 fresh-rests Spi = refl
 
+-- a request that was served
 outcome-rests : (core : Core) (bus : BusAnswer) (lost : ℕ) (outcome : Outcome) → Rests (after_outcome core bus lost outcome).table
 outcome-rests core bus lost (Answered after status body) = replied-rests (response_packet status body) bus.state
 outcome-rests core bus lost Restarts = fresh-rests (kind_of bus.state)
 
+-- a request during which a read failed
 unread-rests : (core : Core) (bus : BusAnswer) (lost : ℕ) (outcome : Outcome) → Rests (after_unread core bus lost outcome).table
 unread-rests core bus lost (Answered after status body) = replied-rests (response_packet 2 []) bus.state
 unread-rests core bus lost Restarts = fresh-rests (kind_of bus.state)
 
+-- the same table, written otherwise
 rests-as : (after other : After) → after ≡ other → Rests other.table → Rests after.table
 rests-as after other same at = ap (λ (a : After). is_waiting a.table.power) same ∙ at
 
+-- a request, whatever failed in it
 served-rests : (hurt : Hurt) (core : Core) (bus : BusAnswer) (lost : ℕ) (request : List ℕ) (after : After) → WorkLeaves hurt core bus lost (Serve request) after → Rests after.table
 served-rests Whole core bus lost request after leaves = rests-as after _ leaves (outcome-rests core bus lost (handled core (packet_limit (kind_of bus.state)) request))
 served-rests Failed core bus lost request after (inl unread) = rests-as after _ unread.leaves (unread-rests core bus lost (handled core (packet_limit (kind_of bus.state)) request))
 served-rests Failed core bus lost request after (inr unfinished) = rests-as after _ unfinished.leaves (replied-rests (response_packet 2 []) bus.state)
 served-rests Cut core bus lost request after cut = rests-as after _ cut.leaves refl
 
+-- other work, whatever failed in it, from a bus on which no request waits
 kept-rests : (hurt : Hurt) (core : Core) (bus : BusAnswer) (lost : ℕ) (work : Work) (after : After) → rests bus.state → WorkLeaves hurt core bus lost work after → Rests after.table
 kept-rests hurt core bus lost (Serve request) after at leaves = served-rests hurt core bus lost request after leaves
 kept-rests Cut core bus lost work after at cut = rests-as after _ cut.leaves refl
@@ -103,15 +111,18 @@ tick-by : (hurt : Hurt) (table : Table) (power : Power) (after : After) → tabl
 tick-by hurt table Off after same leaves = off-rests hurt table Tick after same leaves
 tick-by hurt table (On awake) after same leaves = tick-work hurt (core_of table awake) (record { state = awake.bus; answer = 0 }) 0 (due_at_tick awake.bus) (idle_work awake.live.erase awake.live.hash) after refl leaves
 
+-- a valid status is one of three
 which : (status : ℕ) → ((status == 0x00) || (status == 0x01) || (status == 0x06)) ≡ true → (status ≡ 0) ⊎ ((status ≡ 1) ⊎ (status ≡ 6))
 which status shown = grind (arith, eqb_tells)
 
+-- a read of the result byte
 read-rests : (test : Bool) (state : LpcState) → (state.status ≡ 0) ⊎ ((state.status ≡ 1) ⊎ (state.status ≡ 6)) → rests (OnLpc state) → rests (OnLpc (if test then record state { status = bit_and state.status 0xFE } else state))
 read-rests false state status at = at
 read-rests true state (inl none) at = rw none refl
 read-rests true state (inr (inl ready)) at = rw ready refl
 read-rests true state (inr (inr busy)) at = let six = rw busy at at in absurd (cc)
 
+-- a read of a port
 port-rests : (bus : BusState) (port : ℕ) → IsBusValid bus → rests bus → rests (bus_step bus (PortIn port)).state
 port-rests (OnLpc state) port valid at = read-rests (port == 0x200) state (which state.status valid.1) at
 port-rests (OnI2c state) port valid at = at
@@ -123,6 +134,7 @@ follows (AccessEvent (PortIn port)) = true
 follows (AccessEvent other) = false
 follows other = true
 
+-- an event of a controller that is on
 on-rests : (hurt : Hurt) (table : Table) (awake : Awake) (event : Event) (after : After) → IsBusValid awake.bus → follows event ≡ true → rests awake.bus → WorkLeaves hurt (core_of table awake) (bus_after awake.bus event) (lost_answer event) (work_on awake event) after → Rests after.table
 on-rests hurt table awake (AccessEvent (PortIn port)) after valid may at leaves = kept-rests hurt (core_of table awake) (bus_step awake.bus (PortIn port)) (lost_answer (AccessEvent (PortIn port))) (work_on awake (AccessEvent (PortIn port))) after (port-rests awake.bus port valid at) leaves
 on-rests hurt table awake Tick after valid may at leaves = kept-rests hurt (core_of table awake) (bus_after awake.bus Tick) (lost_answer Tick) (work_on awake Tick) after at leaves
@@ -131,10 +143,12 @@ on-rests hurt table awake (PowerEvent on) after valid may at leaves = kept-rests
 on-rests hurt table awake (PinEvent on) after valid may at leaves = kept-rests hurt (core_of table awake) (bus_after awake.bus (PinEvent on)) (lost_answer (PinEvent on)) (work_on awake (PinEvent on)) after at leaves
 on-rests hurt table awake (AccessEvent other) after valid may at leaves = absurd (cc)
 
+-- an event, by whether the controller is on
 event-by : (hurt : Hurt) (table : Table) (event : Event) (power : Power) (after : After) → table.power ≡ power → IsPowerValid (length table.flash) table.kind power → follows event ≡ true → is_waiting power ≡ false → EventLeavesBy hurt table event power after → Rests after.table
 event-by hurt table event Off after same valid may at leaves = off-rests hurt table event after same leaves
 event-by hurt table event (On awake) after same valid may at leaves = on-rests hurt table awake event after valid.bus may at leaves
 
+-- a step from a table on which no request waits
 step-rests : (old : Table) (event : Event) (answer : ℕ) (hurt : Hurt) (new : Table) → Valid old → follows event ≡ true → Rests old → EventLeavesBy hurt old event old.power (record { table = new; answer = answer }) → Rests new
 step-rests old event answer hurt new valid may at leaves = event-by hurt old event old.power (record { table = new; answer = answer }) refl valid.power may at leaves
 
@@ -151,6 +165,7 @@ read-follows SpiSelect meant seen calls all = absurd (cc)
 read-follows (SpiByte byte) meant seen calls all = absurd (cc)
 read-follows SpiDeselect meant seen calls all = absurd (cc)
 
+-- the first event before reads of ports
 event-follows : (event : Event) (meant seen : ℕ) (calls : List HostCall) → list_all is_port_read (call_before event meant seen calls) ≡ true → (follows event ≡ true) × (list_all is_port_read calls ≡ true)
 event-follows (AccessEvent access) meant seen calls all = read-follows access meant seen calls all
 event-follows Tick meant seen calls all = absurd (cc)
@@ -158,6 +173,7 @@ event-follows (Reset cause) meant seen calls all = (refl, all)
 event-follows (PowerEvent on) meant seen calls all = (refl, all)
 event-follows (PinEvent on) meant seen calls all = (refl, all)
 
+-- a run in which the host only reads ports
 pub reads-rest : (old : Table) (entries : List Entry) (new : Table) → Valid old → Rests old → list_all is_port_read (calls_of entries) ≡ true → IsRun old entries new → Rests new
 reads-rest old [] new valid at all run = subst (λ (t : Table). Rests t) (sym run) at
 reads-rest old (Step event answer meant seen hurt ∷ entries) new valid at all run =
@@ -177,10 +193,12 @@ behind-wait (Reset cause) meant seen calls ends = inl ends
 behind-wait (PowerEvent on) meant seen calls ends = inl ends
 behind-wait (PinEvent on) meant seen calls ends = inl ends
 
+-- a tick leaves no request that waits
 ticked : (old : Table) (event : Event) (answer : ℕ) (hurt : Hurt) (new : Table) → event ≡ Tick → EventLeavesBy hurt old event old.power (record { table = new; answer = answer }) → Rests new
 ticked old event answer hurt new is leaves =
     tick-by hurt old old.power (record { table = new; answer = answer }) refl (subst (λ (e : Event). EventLeavesBy hurt old e old.power (record { table = new; answer = answer })) is leaves)
 
+-- a run that ends with a wait and reads of ports
 pub ends-rest : (old : Table) (entries : List Entry) (new : Table) → Valid old → ends_resting (calls_of entries) ≡ true → IsRun old entries new → Rests new
 ends-rest old [] new valid ends run = absurd (cc)
 ends-rest old (Step event answer meant seen hurt ∷ entries) new valid ends run =

@@ -1,10 +1,12 @@
 -- An undisturbed exchange on LPC, call by call.
-use Rattle.std.specs.Prelude.{◌≡◌, ℕ, List, ◌∷◌, ◌++◌, length, replicate, IsFalse}
+use Rattle.std.specs.Prelude.{◌≡◌, ℕ, List, ◌∷◌, ◌++◌, length, replicate, map, IsFalse}
 use Rattle.ec_model.specs.declared.event.Access.TheVariants.{PortOut, PortIn}
 use Rattle.ec_model.specs.Bus.{BusState, OnLpc, OnI2c, OnSpi, is_busy, low_status}
-use Rattle.ec_model.specs.HostCalls.{HostCall, Did, Waited}
+use Rattle.ec_model.specs.declared.event.Entry.{Entry}
+use Rattle.ec_model.specs.HostCalls.{HostCall, Did, Waited, calls_of}
 use Rattle.ec_model.specs.Send.{Heard, Reply, port_reads, port_writes}
 use Rattle.ec_model.specs.Table.{Table, Core, table_of}
+use Rattle.ec_wire.specs.Quiet.{quiet_entry}
 
 -- the bus is LPC, and shows a status that is not busy
 abbrev pub ShowsIdle : ℕ → BusState → Type 0
@@ -25,3 +27,8 @@ pub record Exchanges (status : ℕ) (request response : List ℕ) (core : Core) 
   pub calls_are : calls ≡ lpc_exchange status request response
   pub heard_is : heard ≡ Reply response
   pub leaves : new ≡ table_of core (OnLpc (record { window = window; status = 0; outcome = low_status response }))
+
+-- the entries are those of one such exchange
+pub record IsExchange (status : ℕ) (request response : List ℕ) (core : Core) (added : List Entry) (heard : Heard) (new : Table) : Type 0 where
+  pub entries : added ≡ map quiet_entry (lpc_exchange status request response)
+  pub exchanges : Exchanges status request response core (calls_of added) heard new

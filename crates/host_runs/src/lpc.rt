@@ -1,5 +1,6 @@
 // What holds on LPC, from a valid table.
-ghost use Rattle.std.specs.Prelude.{◌≡◌, ◌≤◌, List, ℕ, length};
+ghost use Rattle.std.specs.Prelude.{◌≡◌, ◌≤◌, List, ℕ, length, IsTrue};
+ghost use Rattle.std.specs.List.{list_all};
 ghost use Rattle.ec_types.specs.declared.bus.BusKind.TheVariants.{Lpc};
 ghost use Rattle.ec_model.specs.declared.event.Entry.{Entry};
 ghost use Rattle.ec_model.specs.Packet.{response_packet};
@@ -10,8 +11,10 @@ ghost use Rattle.ec_model.specs.Handle.{handled};
 ghost use Rattle.ec_model.specs.Run.{IsRun};
 ghost use Rattle.ec_model.specs.Send.{Heard, Silent, Send, SendsBy, QuietBy};
 ghost use Rattle.ec_model.specs.Syncable.{settled};
+ghost use Rattle.ec_model.specs.Upset.{IsUndisturbed};
+ghost use Rattle.ec_wire.specs.Calls.{is_wire_step};
 ghost use Rattle.host_runs.specs.Calm.{CallsLead};
-ghost use Rattle.host_runs.specs.Exchange.{ShowsIdle, Exchanges};
+ghost use Rattle.host_runs.specs.Exchange.{ShowsIdle, Exchanges, IsExchange};
 ghost use Rattle.host_runs.specs.Resting.{Rests};
 ghost use Rattle.host_runs.specs.Served.{IsPlain, Serves, Settles};
 
@@ -25,13 +28,18 @@ pub fn lpc_sends()
         table.power ≡ Off → SendsBy Lpc packet calls heard → CallsLead table calls new → heard ≡ Silent }
 {}
 
-/// An undisturbed send from a bus that is not busy is one exchange, call by call.
+/// An undisturbed send from a bus that is not busy is one exchange, call by call and entry by entry.
 pub fn lpc_exchanges()
-    ensures { (table : Table) (awake : Awake) (status : ℕ) (packet : List ℕ) (calls : List HostCall) (heard : Heard) (new : Table)
+    ensures calls { (table : Table) (awake : Awake) (status : ℕ) (packet : List ℕ) (calls : List HostCall) (heard : Heard) (new : Table)
         (after : Core) (result : ℕ) (body : List ℕ) → Valid table → table.power ≡ On awake → ShowsIdle status awake.bus →
         IsPlain packet → length packet ≤ 256 → SendsBy Lpc packet calls heard → CallsLead table calls new →
         handled (core_of table awake) 256 packet ≡ Answered after result body →
         Exchanges status packet (response_packet result body) after calls heard new }
+    ensures entries { (table : Table) (awake : Awake) (status : ℕ) (packet : List ℕ) (added : List Entry) (heard : Heard) (new : Table)
+        (after : Core) (result : ℕ) (body : List ℕ) → Valid table → table.power ≡ On awake → ShowsIdle status awake.bus →
+        IsPlain packet → length packet ≤ 256 → Send Lpc added packet heard → IsRun table added new → IsUndisturbed added →
+        IsTrue (list_all is_wire_step added) → handled (core_of table awake) 256 packet ≡ Answered after result body →
+        IsExchange status packet (response_packet result body) after added heard new }
 {}
 
 /// Where the bus of a controller that is on is brought to rest, and nothing disturbs that, the request that waits was

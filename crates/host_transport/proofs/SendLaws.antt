@@ -1,5 +1,5 @@
 -- A reply that was heard is a response.
-use Rattle.std.proofs.Common.{◌≡◌, refl, ap, ◌∙◌, ℕ, Bool, true, false, ◌==◌, if◌then◌else◌, List, Some}
+use Rattle.std.proofs.Common.{◌≡◌, refl, ap, ◌∙◌, ℕ, Bool, true, false, ◌==◌, if◌then◌else◌, List, not, ◌&&◌}
 use Rattle.ec_types.specs.declared.bus.BusKind.{BusKind}
 use Rattle.ec_types.specs.declared.bus.BusKind.TheVariants.{Lpc, I2c, Spi}
 use Rattle.ec_model.specs.Packet.{is_response}
@@ -25,14 +25,15 @@ spi-is : (test : Bool) (bytes reply : List ℕ) → Reply reply ≡ heard_if tes
 spi-is true bytes reply same = packet-is (is_response bytes) bytes reply refl same
 spi-is false bytes reply same = absurd (cc)
 
-bad-or-silent : (test : Bool) (reply : List ℕ) → Reply reply ≡ (if test then Silent else Bad) → ⊥
+-- neither bad bytes nor silence is a reply
+bad-or-silent : (test : Bool) (reply : List ℕ) → Reply reply ≡ (if test then Bad else Silent) → ⊥
 bad-or-silent true reply same = cc
 bad-or-silent false reply same = cc
 
-no-reply : (ready : Bool) (last : ℕ) (reply : List ℕ) → Reply reply ≡ heard_without (Some ready) last → ⊥
-no-reply true last reply same = bad-or-silent (last == 0xFF) reply same
-no-reply false last reply same = cc
+no-reply : (ready : Bool) (last : ℕ) (reply : List ℕ) → Reply reply ≡ heard_without ready last → ⊥
+no-reply ready last reply same = bad-or-silent (ready && not (last == 0xFF)) reply same
 
+-- what a send heard as a reply is a response, by its calls
 response-heard : (bus : BusKind) (packet : List ℕ) (calls : List HostCall) (reply : List ℕ) → SendsBy bus packet calls (Reply reply) → is_response reply ≡ true
 response-heard Lpc packet calls reply (LpcWasBlocked blocked silent) = absurd (cc)
 response-heard Lpc packet calls reply (LpcWasUnserved unserved silent) = absurd (cc)

@@ -1,5 +1,8 @@
-use Rattle.host_runs.proofs.LpcExchange.{lpc-exchange}
+use Rattle.host_runs.proofs.LpcExchange.{lpc-exchange, exchange-run}
 use Rattle.host_runs.proofs.lpc.lpc_exchanges.Goals as goal
 
-pub returns : goal.returns
-returns c = lpc-exchange
+pub returns-clause-calls : goal.returns-clause-calls
+returns-clause-calls c = lpc-exchange
+
+pub returns-clause-entries : goal.returns-clause-entries
+returns-clause-entries c = exchange-run

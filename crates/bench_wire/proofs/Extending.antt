@@ -1,0 +1,54 @@
+-- Entries on a bench, one after the other, whatever they are.
+use Rattle.std.proofs.Common.{◌≡◌, refl, sym, ap, ◌∙◌, subst, ℕ, ◌+◌, Bool, List, [], ◌∷◌, ◌++◌, append_assoc, append-nil, arith}
+use Rattle.std.specs.Prelude.{count_by}
+use Rattle.ec_model.specs.declared.event.Entry.{Entry}
+use Rattle.ec_model.specs.HostCalls.{on_after}
+use Rattle.ec_model.specs.Upset.{is_cut_entry}
+use Rattle.ec_wire.specs.Calls.{WireView, RoseBy, Grows, is_failed_entry, with_spare}
+use Rattle.ec_wire.proofs.Appends.{runs-append, runs-nil, on_after-append, count_by-append}
+use Rattle.bench_wire.specs.Adding.{Extends}
+
+-- a count that rose along two lists of entries
+rose-along : (test : Entry → Bool) (first second : List Entry) (before middle now : ℕ) → RoseBy (count_by test first) before middle → RoseBy (count_by test second) middle now → RoseBy (count_by test (first ++ second)) before now
+rose-along test first second before middle now once again =
+    subst (λ (amount : ℕ). RoseBy amount before now) (sym (count_by-append test first second))
+    (record { later = omega (arith, once.later, again.later); risen = omega (arith, once.risen, again.risen, again.later) })
+
+-- entries behind others
+pub extends-then : (first second : List Entry) (old middle new : WireView) → Extends first old middle → Extends second middle new → Extends (first ++ second) old new
+extends-then first second old middle new once again =
+    record {
+      entries = again.entries ∙ ap (λ (entries : List Entry). entries ++ second) once.entries ∙ append_assoc old.entries first second;
+      on = again.on ∙ ap (λ (on : Bool). on_after second on) once.on ∙ sym (on_after-append first second old.on);
+      bus = again.bus ∙ once.bus;
+      armed = λ off. again.armed (once.armed off);
+      faults = rose-along is_failed_entry first second old.faults middle.faults new.faults once.faults again.faults;
+      cuts = rose-along is_cut_entry first second old.cuts middle.cuts new.cuts once.cuts again.cuts;
+      run = runs-append first second old.table middle.table new.table once.run again.run;
+    }
+
+-- what the host's calls added
+pub extends-grows : (added : List Entry) (old new : WireView) → Grows added old new → Extends added old new
+extends-grows added old new grows =
+    record {
+      entries = grows.entries;
+      on = grows.on;
+      bus = grows.bus;
+      armed = λ off. (grows.quiet off).disarmed;
+      faults = grows.faults;
+      cuts = grows.cuts;
+      run = grows.run;
+    }
+
+-- nothing
+pub extends-nil : (spare : ℕ) (view : WireView) → Extends [] view (with_spare spare view)
+extends-nil spare view =
+    record {
+      entries = sym (append-nil view.entries);
+      on = refl;
+      bus = refl;
+      armed = λ off. off;
+      faults = record { later = omega arith; risen = omega arith };
+      cuts = record { later = omega arith; risen = omega arith };
+      run = runs-nil view.table;
+    }

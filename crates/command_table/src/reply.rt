@@ -1,0 +1,68 @@
+// Replies.
+ghost use Rattle.std.specs.Prelude.{◌≡◌, []};
+ghost use Rattle.ec_types.specs.LittleEndian.{u32_bytes};
+ghost use Rattle.ec_model.specs.declared.event.Hurt.TheVariants.{Whole};
+ghost use Rattle.command_table.specs.Leaves.{end_status};
+
+use byteorder::{ByteOrder, LittleEndian};
+use ec_model::Hurt;
+use ec_packet::Packet;
+
+/// A reply, and what a flash call did while it was made.
+#[derive(Drop)]
+pub struct Reply {
+    pub status: u16,
+    pub body: Packet,
+    pub hurt: Hurt,
+}
+
+impl Reply {
+    /// Success, with no body.
+    pub fn new() -> Reply
+        ensures status { result.status ≡ 0 }
+        ensures body { result.body ≡ [] }
+        ensures hurt { result.hurt ≡ Whole }
+    {
+        Reply {
+            status: 0,
+            body: Packet::new(),
+            hurt: Hurt::Whole,
+        }
+    }
+
+    /// A status with no body, where no flash call failed.
+    pub fn refuse(&mut self, status: u16)
+        ensures status { self.new.status ≡ status }
+        ensures body { self.new.body ≡ [] }
+        ensures hurt { self.new.hurt ≡ Whole }
+    {
+        self.status = status;
+        self.body.clear();
+        self.hurt = Hurt::Whole;
+    }
+
+    // Success with no body, or an error where a flash call failed.
+    pub(crate) fn end(&mut self, hurt: Hurt)
+        ensures status { self.new.status ≡ end_status hurt }
+        ensures body { self.new.body ≡ [] }
+        ensures hurt { self.new.hurt ≡ hurt }
+    {
+        self.refuse(match hurt {
+            Hurt::Whole => 0,
+            _ => 2,
+        });
+        self.hurt = hurt;
+    }
+
+    // Success with a number.
+    pub(crate) fn say_number(&mut self, number: u32)
+        ensures status { self.new.status ≡ 0 }
+        ensures body { self.new.body ≡ u32_bytes number }
+        ensures hurt { self.new.hurt ≡ Whole }
+    {
+        let mut bytes = [0; 4];
+        LittleEndian::write_u32(&mut bytes, number);
+        self.end(Hurt::Whole);
+        self.body.extend(&bytes);
+    }
+}

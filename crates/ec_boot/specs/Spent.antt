@@ -1,0 +1,25 @@
+-- What a call costs the device.
+use Rattle.std.specs.Prelude.{◌≡◌, ℕ, ◌+◌, ◌≤◌, min}
+use Rattle.flash_dev.specs.Counts.{Rose, last_count}
+use Rattle.flash_dev.specs.Device.{DeviceView}
+use Rattle.ec_model.specs.declared.event.Hurt.{Hurt}
+use Rattle.ec_model.specs.declared.event.Hurt.TheVariants.{Whole, Failed, Cut}
+
+-- a count that never falls, and rises by at most so much; it stands still at its last value
+pub record RisesAtMost (amount before now : ℕ) : Type 0 where
+  pub least : min before last_count ≤ now
+  pub most : now ≤ before + amount
+
+-- a call that failed, or lost power, comes only where the count of that rose
+abbrev pub HurtRose : Hurt → DeviceView → DeviceView → Type 0
+HurtRose Whole old new = Unit {0}
+HurtRose Failed old new = Rose old.faults new.faults
+HurtRose Cut old new = Rose old.cuts new.cuts
+
+-- what is left of a device once at most so many bytes were asked of its reads
+pub record Costs (hurt : Hurt) (asked : ℕ) (old new : DeviceView) : Type 0 where
+  pub extent : new.extent ≡ old.extent
+  pub faults : old.faults ≤ new.faults
+  pub cuts : old.cuts ≤ new.cuts
+  pub rose : HurtRose hurt old new
+  pub fetched : RisesAtMost asked old.fetched new.fetched

@@ -1,0 +1,57 @@
+// Off: only the flash is left.
+ghost use Rattle.std.specs.Prelude.{◌≡◌, option_map};
+ghost use Rattle.ec_types.specs.declared.reset.ResetCause.TheVariants.{PowerOn};
+ghost use Rattle.ec_model.specs.Boot.{booted};
+ghost use Rattle.ec_boot.specs.States.{told_core, IsLookedAt};
+
+use crate::InRo;
+use ec_types::ResetCause;
+use flash_ctl::Ctl;
+use flash_dev::{FlashDev, Geometry};
+use std::marker::Model;
+
+/// A controller without power. It holds its flash and nothing of the live state.
+pub struct Off<F: FlashDev> {
+    flash: F,
+    geometry: Geometry,
+}
+
+impl<F: FlashDev> Model for Off<F> {
+    ghost use Rattle.flash_ctl.specs.Locks.{HasGeometry};
+    ghost use Rattle.ec_boot.specs.States.{OffView};
+
+    ghost Value = { OffView };
+
+    ghost view = { λ off. record { device = F.seen off.flash } };
+
+    ghost invariant = { λ off. HasGeometry off.geometry (F.seen off.flash) };
+}
+
+impl<F: FlashDev> Off<F> {
+    /// A controller that was never on, with a flash of this size.
+    pub fn new(flash: F, geometry: Geometry) -> Off<F>
+        requires { geometry ≡ (F.seen flash).extent }
+        ensures { result.device ≡ F.seen flash }
+    {
+        let _size = geometry.size();
+        Off { flash, geometry }
+    }
+
+    /// Power comes: the controller boots RO, with the pin as given.
+    pub fn power_on(self, pin: bool) -> InRo<F>
+        ensures looked { IsLookedAt result.live.pstate_bad self.device result.device }
+        ensures booted { told_core result ≡ option_map (λ flash. booted flash pin PowerOn result.live.pstate_bad) self.device.held }
+        ensures pin { result.pin ≡ pin }
+    {
+        let Off { flash, geometry } = self;
+        InRo::boot(Ctl::new(flash, geometry), pin, ResetCause::PowerOn)
+    }
+
+    /// The flash, as it is.
+    pub fn into_flash(self) -> F
+        ensures { F.seen result ≡ self.device }
+    {
+        let Off { flash, geometry: _ } = self;
+        flash
+    }
+}

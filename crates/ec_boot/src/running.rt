@@ -1,0 +1,51 @@
+// What a controller that is on can be asked and told, whichever image runs.
+ghost use Rattle.std.specs.Prelude.{◌≡◌, ◌≤◌, ◌+◌, ◌%◌, length, IfSome, IsTrue};
+ghost use Rattle.flash_dev.specs.Flash.{programmed};
+ghost use Rattle.flash_dev.specs.Device.{IsRead};
+ghost use Rattle.ec_model.specs.Ranges.{is_flash_size};
+ghost use Rattle.ec_boot.specs.States.{RunView, IsLiveValid, IsOperated};
+
+use ec_model::Live;
+use flash_ctl::CtlErr;
+use flash_dev::{Failed, Geometry};
+
+/// The calls of a controller that is on.
+pub trait Running {
+    /// What contracts see of the controller.
+    ghost run: { Self → RunView };
+
+    /// What lasts until the next reset.
+    fn live(&self) -> Live
+        ensures live { result ≡ (run self.now).live }
+        ensures valid { IsLiveValid (run self.now) };
+
+    /// Whether the write-protect pin is asserted.
+    fn pin(&self) -> bool
+        ensures { result ≡ (run self.now).pin };
+
+    /// The pin changes. Nothing else does.
+    fn set_pin(&mut self, on: bool)
+        ensures { run self.new ≡ record (run self.old) { pin = on } };
+
+    /// The size of the flash.
+    fn geometry(&self) -> Geometry
+        ensures size { result ≡ (run self.now).device.extent }
+        ensures allowed { IsTrue (is_flash_size result) }
+        ensures whole { IfSome (run self.now).device.held (λ bytes. length bytes ≡ (run self.now).device.extent) };
+
+    /// Reads the flash from a place on. A read that fails leaves all as it was, but for the device's counts.
+    fn read(&mut self, at: u32, out: &mut [u8]) -> Result<(), Failed>
+        requires { at + length out.old ≤ (run self.old).device.extent }
+        ensures read { IsRead at out.old out.new (run self.old).device (run self.new).device result }
+        ensures rest { run self.new ≡ record (run self.old) { device = (run self.new).device } };
+
+    /// Programs at most 64 bytes. A range with a locked block is refused, and then the device is not called; where it
+    /// is called, a hash over the range is dropped, also if the call fails or power is lost.
+    fn program(&mut self, at: u32, bytes: &[u8]) -> Result<(), CtlErr>
+        requires aligned { at % 4 ≡ 0 }
+        requires whole { length bytes.now % 4 ≡ 0 }
+        requires some { 4 ≤ length bytes.now }
+        requires short { length bytes.now ≤ 64 }
+        requires inside { at + length bytes.now ≤ (run self.old).device.extent }
+        ensures { IsOperated at (length bytes.now) (programmed at bytes.now) (run self.old) (run self.new) result };
+}

@@ -1,0 +1,205 @@
+-- What a request leaves, by its answer.
+use Rattle.std.proofs.Common.{◌≡◌, refl, sym, ap, ◌∙◌, subst, ℕ, ◌+◌, ◌-◌, ◌≤◌, Bool, true, List, [], length, Option, Some, None, Result, Ok, Err, inl, inr, arith}
+use Rattle.std.specs.Prelude.{option_map, ◌⊎◌, IsTrue, IsNone}
+use Rattle.flash_dev.specs.Told.{Changes}
+use Rattle.flash_dev.specs.Device.{DeviceView}
+use Rattle.ec_types.specs.declared.status.Status.{Status}
+use Rattle.ec_types.specs.declared.bus.BusKind.{BusKind}
+use Rattle.ec_types.specs.declared.bus.BusKind.TheVariants.{Lpc, I2c, Spi}
+use Rattle.ec_types.specs.Tables.{packet_limit}
+use Rattle.ec_model.specs.declared.event.Hurt.{Hurt}
+use Rattle.ec_model.specs.declared.event.Hurt.TheVariants.{Whole, Failed, Cut}
+use Rattle.ec_model.specs.declared.event.Event.{Event}
+use Rattle.ec_model.specs.Packet.{RequestView, framing, response_packet}
+use Rattle.ec_model.specs.Bus.{BusState, BusAnswer, due_now, OnLpc, OnI2c, OnSpi, kind_of, replied}
+use Rattle.ec_model.specs.Table.{Core, Table, table_of, off_table}
+use Rattle.ec_model.specs.Answer.{Outcome, Answered, Restarts}
+use Rattle.ec_model.specs.Handle.{Admitted, admitted, admitted_from, asked, row_of, operations_by, handled, handled_reads, handled_operations}
+use Rattle.ec_model.specs.Step.{Work, Serve, WorkLeaves, after_outcome, after_unread, outcome_reads, After as AfterEvent, error_replied, failed_core, work_on, lost_answer, operations_of, work_operations}
+use Rattle.ec_packet.specs.declared.request.Request.{Request}
+use Rattle.ec_packet.specs.Read.{request_view, IsReadAs}
+use Rattle.ec_wire.specs.Dues.{asked_of}
+use Rattle.ec_boot.specs.States.{RunView, OffView, core_at, told_core}
+use Rattle.ec_boot.specs.Spent.{Costs, RisesAtMost}
+use Rattle.command_table.specs.declared.table.After.{After}
+use Rattle.command_table.specs.declared.table.After.TheVariants.{Ro}
+use Rattle.command_table.specs.Leaves.{FoundLeaves, HasReply, IsStopped}
+use Rattle.command_table.specs.After.{Follows, IsAnswered, IsLostIn, StaysOn, GoesOff}
+use Rattle.ec_core.specs.View.{WearsBy}
+use Rattle.ec_core.specs.Held.{awake_of, up_table, down_table, answer_by, IsSpent}
+use Rattle.ec_core.specs.Task.{IsTakenUp, IsStepped}
+use Rattle.ec_core.specs.declared.held.Held.{Held}
+use Rattle.ec_core.specs.declared.held.Held.TheVariants.{Down, Up}
+use Rattle.ec_core.specs.declared.task.Task.TheVariants.{Serve as ServeTask}
+use Rattle.ec_core.proofs.TaskLemmas.{WorkTold, event-told, on_by, step-up, stays, unspent}
+
+read-ok : (read : Result RequestView ℕ) (request : Request) → IsReadAs read (Ok request) → read ≡ Ok (request_view request)
+read-ok (Ok view) request same = ap (λ (v : RequestView). let r : Result RequestView ℕ = Ok v in r) (sym same)
+read-ok (Err number) request wrong = absurd wrong
+
+read-err : (read : Result RequestView ℕ) (status : Status) → IsReadAs read (Err status) → read ≡ Err status.0
+read-err (Ok view) status wrong = absurd wrong
+read-err (Err number) status same = ap (λ (n : ℕ). let r : Result RequestView ℕ = Err n in r) (sym same)
+
+-- the answer to a packet is that to its request
+pub packet-answered : {F : Type 0} (limit : ℕ) (bytes : List ℕ) (request : Request) (hurt : Hurt) (status : ℕ) (body : List ℕ) (on : RunView) (after : After F) → IsReadAs (framing bytes) (Ok request) →
+    IsAnswered limit (λ core. admitted core (request_view request)) hurt status body on after → IsAnswered limit (λ core. asked core bytes) hurt status body on after
+packet-answered {F} limit bytes request hurt status body on after read answered =
+    subst (λ (r : Result RequestView ℕ). IsAnswered {F = F} limit (λ core. admitted_from core r) hurt status body on after) (sym (read-ok (framing bytes) request read)) answered
+
+-- the most bytes of a packet
+pub record IsLimit (limit : ℕ) : Type 0 where
+  pub least : 8 ≤ limit
+  pub most : limit ≤ 544
+
+pub limits : (kind : BusKind) → IsLimit (packet_limit kind)
+limits Lpc = record { least = omega arith; most = omega arith }
+limits I2c = record { least = omega arith; most = omega arith }
+limits Spi = record { least = omega arith; most = omega arith }
+
+-- the answer to a packet that is no request
+pub packet-refused : (kind : BusKind) (bytes : List ℕ) (error : Status) (hurt : Hurt) (status : ℕ) (body : List ℕ) (on : RunView) → IsReadAs (framing bytes) (Err error) → hurt ≡ Whole → status ≡ error.0 → body ≡ [] →
+    StaysOn (packet_limit kind) (λ core. asked core bytes) hurt status body on on
+packet-refused kind bytes error hurt status body on read whole status_is body_is =
+    subst (λ (h : Hurt). StaysOn (packet_limit kind) (λ core. asked core bytes) h status body on on) (sym whole)
+    (subst (λ (n : ℕ). StaysOn (packet_limit kind) (λ core. asked core bytes) Whole n body on on) (sym status_is)
+    (subst (λ (b : List ℕ). StaysOn (packet_limit kind) (λ core. asked core bytes) Whole error.0 b on on) (sym body_is)
+    (record {
+      alive = λ cut. cc;
+      leaves = leaves on.device.held;
+      pin = refl;
+      short = (limits kind).least;
+      spent = unspent (packet_limit kind - 8) on.device;
+      wear = λ core told. stays (length (operations_by core (asked core bytes))) on.device.wear on.device.wear refl;
+    }))) where
+      leaves : (o : Option (List ℕ)) → Changes (λ before after. FoundLeaves (asked before bytes) Whole (packet_limit kind) before after error.0 []) (option_map (core_at on) o) (option_map (core_at on) o)
+      leaves None = tt
+      leaves (Some f) = ap (λ (r : Result RequestView ℕ). row_of (core_at on f) (packet_limit kind) (admitted_from (core_at on f) r)) (read-err (framing bytes) error read)
+
+-- a read that failed, where the outcome is answered
+reads-of : (outcome : Outcome) (reads : Bool) → HasReply outcome → IsTrue reads → IsTrue (outcome_reads reads outcome)
+reads-of (Answered after status body) reads has is = is
+reads-of Restarts reads has is = absurd has
+
+unread-of : (core : Core) (bus : BusAnswer) (lost : ℕ) (outcome : Outcome) → HasReply outcome →
+    ◌≡◌ {A = AfterEvent} (record { table = table_of core (error_replied bus.state); answer = bus.answer }) (after_unread core bus lost outcome)
+unread-of core bus lost (Answered after status body) has = refl
+unread-of core bus lost Restarts has = absurd has
+
+-- a table with a reply
+abbrev pub with_reply : Core → BusState → ℕ → ℕ → List ℕ → AfterEvent
+with_reply core bus answer status body = record { table = table_of core (replied (response_packet status body) bus); answer = answer }
+
+with-error : (core : Core) (bus : BusState) (answer status : ℕ) (body : List ℕ) → status ≡ 2 → body ≡ [] → with_reply core bus answer status body ≡ with_reply core bus answer 2 []
+with-error core bus answer status body status_is body_is =
+    ap (λ (n : ℕ). with_reply core bus answer n body) status_is ∙ ap (λ (b : List ℕ). with_reply core bus answer 2 b) body_is
+
+-- the work of a request that was replied to
+replied-leaves : (hurt : Hurt) (before after : Core) (bus : BusState) (answer lost : ℕ) (bytes : List ℕ) (status : ℕ) (body : List ℕ) → (hurt ≡ Cut → ⊥) →
+    FoundLeaves (asked before bytes) hurt (packet_limit (kind_of bus)) before after status body →
+    WorkLeaves hurt before (record { state = bus; answer = answer }) lost (Serve bytes) (record { table = table_of after (replied (response_packet status body) bus); answer = answer_by hurt answer lost })
+replied-leaves Whole before after bus answer lost bytes status body alive same =
+    sym (ap (after_outcome before (record { state = bus; answer = answer }) lost) same)
+replied-leaves Cut before after bus answer lost bytes status body alive leaves = absurd (alive refl)
+replied-leaves Failed before after bus answer lost bytes status body alive failed = by failed.what where
+  by : (IsTrue (handled_reads before (packet_limit (kind_of bus)) bytes) × HasReply (handled before (packet_limit (kind_of bus)) bytes) × (after ≡ before)) ⊎ IsStopped (handled_operations before bytes) before after →
+      WorkLeaves Failed before (record { state = bus; answer = answer }) lost (Serve bytes) (record { table = table_of after (replied (response_packet status body) bus); answer = answer })
+  by (inl read) =
+      inl (record {
+        reads = reads-of (handled before (packet_limit (kind_of bus)) bytes) (handled_reads before (packet_limit (kind_of bus)) bytes) read.1 read.0;
+        leaves = ap (λ (c : Core). with_reply c bus answer status body) read.2 ∙ with-error before bus answer status body failed.status_is failed.body_is
+            ∙ unread-of before (record { state = bus; answer = answer }) lost (handled before (packet_limit (kind_of bus)) bytes) read.1;
+      })
+  by (inr stopped) =
+      inr (record {
+        place = stopped.place;
+        flash = after.flash;
+        stops = stopped.stops;
+        leaves = ap (λ (c : Core). with_reply c bus answer status body) stopped.leaves
+            ∙ with-error (failed_core before after.flash (handled_operations before bytes) stopped.place) bus answer status body failed.status_is failed.body_is;
+      })
+
+-- the same, where the flash tells its bytes
+replied-told : (hurt : Hurt) (old new : RunView) (bus : BusState) (answer lost : ℕ) (bytes : List ℕ) (status : ℕ) (body : List ℕ) → (hurt ≡ Cut → ⊥) →
+    Changes (λ before after. FoundLeaves (asked before bytes) hurt (packet_limit (kind_of bus)) before after status body) (told_core old) (told_core new) →
+    WorkTold hurt (record { state = bus; answer = answer }) lost (Serve bytes) (answer_by hurt answer lost) old (up_table (replied (response_packet status body) bus) new)
+replied-told hurt old new bus answer lost bytes status body alive leaves = by old.device.held new.device.held leaves where
+  by : (o p : Option (List ℕ)) → Changes (λ before after. FoundLeaves (asked before bytes) hurt (packet_limit (kind_of bus)) before after status body) (option_map (core_at old) o) (option_map (core_at new) p) →
+      Follows (λ core table. WorkLeaves hurt core (record { state = bus; answer = answer }) lost (Serve bytes) (record { table = table; answer = answer_by hurt answer lost }))
+      (option_map (core_at old) o) (option_map (λ flash. table_of (core_at new flash) (replied (response_packet status body) bus)) p)
+  by None None told = tt
+  by None (Some g) told = told
+  by (Some f) None told = told
+  by (Some f) (Some g) told = replied-leaves hurt (core_at old f) (core_at new g) bus answer lost bytes status body alive told
+
+-- power was lost, where the flash tells its bytes
+lost-told : (old : RunView) (off : OffView) (bus : BusState) (kind : BusKind) (answer lost : ℕ) (bytes : List ℕ) → kind_of bus ≡ kind →
+    Follows (IsLostIn (λ core. asked core bytes)) (told_core old) off.device.held →
+    WorkTold Cut (record { state = bus; answer = answer }) lost (Serve bytes) lost old (down_table kind old.pin off)
+lost-told old off bus kind answer lost bytes kind_is leaves = by old.device.held off.device.held leaves where
+  by : (o p : Option (List ℕ)) → Follows (IsLostIn (λ core. asked core bytes)) (option_map (core_at old) o) p →
+      Follows (λ core table. WorkLeaves Cut core (record { state = bus; answer = answer }) lost (Serve bytes) (record { table = table; answer = lost }))
+      (option_map (core_at old) o) (option_map (λ flash. off_table flash old.pin kind) p)
+  by None None told = tt
+  by None (Some g) told = told
+  by (Some f) None told = told
+  by (Some f) (Some g) told =
+      record { place = told.place; flash = g; stops = told.stops; leaves = ap (λ (k : BusKind). let a : AfterEvent = record { table = off_table g old.pin k; answer = lost } in a) (sym kind_is) }
+
+-- nothing is due once a reply is there
+replied-none : (packet : List ℕ) (bus : BusState) → IsNone (due_now (replied packet bus))
+replied-none packet (OnLpc state) = refl
+replied-none packet (OnI2c state) = refl
+replied-none packet (OnSpi state) = refl
+
+same-some : (a b : List ℕ) (o : Option (List ℕ)) → o ≡ Some a → o ≡ Some b → a ≡ b
+same-some a b o first second = cc
+
+on-alive : (hurt : Hurt) → (hurt ≡ Cut → ⊥) → true ≡ on_by hurt true
+on-alive Whole alive = refl
+on-alive Failed alive = refl
+on-alive Cut alive = absurd (alive refl)
+
+-- a request reads less than a tick may
+spent-more : (hurt : Hurt) (limit : ℕ) (old new : DeviceView) → IsLimit limit → Costs hurt (limit - 8) old new → IsSpent hurt old new
+spent-more hurt limit old new is spent =
+    record { extent = spent.extent; faults = spent.faults; cuts = spent.cuts; rose = spent.rose; fetched = record { least = spent.fetched.least; most = omega (arith, spent.fetched.most) } }
+
+-- the operations of an event are those of the request that it has served
+served-wear : (event : Event) (old_bus : BusState) (run : RunView) (bytes : List ℕ) (worn : ℕ) → work_on (awake_of run old_bus) event ≡ Serve bytes →
+    ((core : Core) → told_core run ≡ Some core → RisesAtMost (length (operations_by core (asked core bytes))) run.device.wear worn) → WearsBy event (up_table old_bus run) run.device.wear worn
+served-wear event old_bus run bytes worn work_is wear table told = by run.device.held told (λ core is. wear core is) where
+  by : (o : Option (List ℕ)) → option_map (λ flash. table_of (core_at run flash) old_bus) o ≡ Some table →
+      ((core : Core) → option_map (core_at run) o ≡ Some core → RisesAtMost (length (operations_by core (asked core bytes))) run.device.wear worn) → RisesAtMost (length (operations_of table event)) run.device.wear worn
+  by None same here = cc
+  by (Some f) same here =
+      let table_is : table_of (core_at run f) old_bus ≡ table = cc in
+      subst (λ (t : Table). RisesAtMost (length (operations_of t event)) run.device.wear worn) table_is
+      (subst (λ (w : Work). RisesAtMost (length (work_operations (core_at run f) w)) run.device.wear worn) (sym work_is) (here (core_at run f) refl))
+
+-- a request that was answered
+pub served-up : {F : Type 0} (kind : BusKind) (event : Event) (answer : ℕ) (old_bus bus new_bus : BusState) (run next : RunView) (hurt : Hurt) (status : ℕ) (body bytes : List ℕ) → kind_of bus ≡ kind → asked_of bus ≡ Some bytes →
+    new_bus ≡ replied (response_packet status body) bus → StaysOn (packet_limit kind) (λ core. asked core bytes) hurt status body run next →
+    IsTakenUp event old_bus (Some ServeTask) bus answer run → IsStepped {F = F} kind event hurt (answer_by hurt answer (lost_answer event)) old_bus new_bus (Some (Up run)) (Some (Up next))
+served-up {F} kind event answer old_bus bus new_bus run next hurt status body bytes kind_is asked_is bus_is stays_on taken =
+    let work_is : work_on (awake_of run old_bus) event ≡ Serve bytes = taken.task_is.serves ∙ ap (λ (r : List ℕ). Serve r) (same-some taken.task_is.request bytes (asked_of bus) taken.task_is.asked asked_is) in
+    let leaves = subst (λ (k : BusKind). Changes (λ before after. FoundLeaves (asked before bytes) hurt (packet_limit k) before after status body) (told_core run) (told_core next)) (sym kind_is) stays_on.leaves in
+    subst (λ (b : BusState). IsStepped {F = F} kind event hurt (answer_by hurt answer (lost_answer event)) old_bus b (Some (Up run)) (Some (Up next))) (sym bus_is)
+    (step-up {F = F} kind event hurt answer old_bus bus (replied (response_packet status body) bus) (Some ServeTask) run (Up next) taken
+    (event-told hurt event old_bus bus answer (answer_by hurt answer (lost_answer event)) run (Serve bytes) (up_table (replied (response_packet status body) bus) next) taken.state taken.answer_is work_is
+    (replied-told hurt run next bus answer (lost_answer event) bytes status body stays_on.alive leaves))
+    (on-alive hurt stays_on.alive) stays_on.pin (replied-none (response_packet status body) bus) (spent-more hurt (packet_limit kind) run.device next.device (limits kind) stays_on.spent)
+    (served-wear event old_bus run bytes next.device.wear work_is stays_on.wear))
+
+-- a request in which power was lost
+pub served-down : {F : Type 0} (kind : BusKind) (event : Event) (answer : ℕ) (old_bus bus : BusState) (run : RunView) (off : OffView) (pin : Bool) (hurt : Hurt) (bytes : List ℕ) → kind_of bus ≡ kind → asked_of bus ≡ Some bytes → pin ≡ run.pin →
+    GoesOff (packet_limit kind) (λ core. asked core bytes) hurt run off →
+    IsTakenUp event old_bus (Some ServeTask) bus answer run → IsStepped {F = F} kind event Cut (lost_answer event) old_bus bus (Some (Up run)) (Some (Down off pin))
+served-down {F} kind event answer old_bus bus run off pin hurt bytes kind_is asked_is pin_is goes_off taken =
+    let work_is : work_on (awake_of run old_bus) event ≡ Serve bytes = taken.task_is.serves ∙ ap (λ (r : List ℕ). Serve r) (same-some taken.task_is.request bytes (asked_of bus) taken.task_is.asked asked_is) in
+    subst (λ (p : Bool). IsStepped {F = F} kind event Cut (lost_answer event) old_bus bus (Some (Up run)) (Some (Down off p))) (sym pin_is)
+    (step-up {F = F} kind event Cut answer old_bus bus bus (Some ServeTask) run (Down off run.pin) taken
+    (event-told Cut event old_bus bus answer (lost_answer event) run (Serve bytes) (down_table kind run.pin off) taken.state taken.answer_is work_is
+    (lost-told run off bus kind answer (lost_answer event) bytes kind_is goes_off.leaves))
+    refl refl tt (spent-more Cut (packet_limit kind) run.device off.device (limits kind) goes_off.spent)
+    (served-wear event old_bus run bytes off.device.wear work_is goes_off.wear))

@@ -1,0 +1,252 @@
+-- What an event leaves, by what its task leaves.
+use Rattle.std.proofs.Common.{◌≡◌, refl, sym, ap, ◌∙◌, subst, ℕ, ◌+◌, ◌≤◌, min, Bool, true, false, List, [], length, Option, Some, None, arith, inl, inr}
+use Rattle.std.specs.Prelude.{option_map, IfSome, is_some}
+use Rattle.flash_dev.specs.Counts.{last_count}
+use Rattle.flash_dev.specs.Device.{DeviceView}
+use Rattle.ec_types.specs.declared.bus.BusKind.{BusKind}
+use Rattle.ec_types.specs.declared.reset.ResetCause.{ResetCause}
+use Rattle.ec_types.specs.declared.reset.ResetCause.TheVariants.{PowerOn}
+use Rattle.ec_model.specs.declared.event.Hurt.{Hurt}
+use Rattle.ec_model.specs.declared.event.Hurt.TheVariants.{Whole, Failed, Cut}
+use Rattle.ec_model.specs.declared.event.Event.{Event}
+use Rattle.ec_model.specs.declared.event.Event.TheVariants.{Access, Tick, Reset, Power as PowerEvent, Pin}
+use Rattle.ec_model.specs.HostCalls.{on_after_event}
+use Rattle.ec_model.specs.Guarded.{pin_after}
+use Rattle.ec_model.specs.Bus.{BusState, BusAnswer, kind_of, fresh_bus}
+use Rattle.ec_model.specs.Table.{Core, Table, table_of, off_table}
+use Rattle.ec_model.specs.Boot.{booted, booted_table}
+use Rattle.ec_model.specs.Step.{Work, Rest, Serve, Boot, Stop, SetPin, WorkLeaves, OffLeaves, work_on, work_off, worked_off, bus_after, lost_answer, operations_of, After}
+use Rattle.ec_wire.specs.Dues.{asked_of}
+use Rattle.ec_boot.specs.States.{RunView, OffView, core_at, told_core}
+use Rattle.ec_boot.specs.Spent.{Costs, RisesAtMost}
+use Rattle.command_table.specs.After.{Follows}
+use Rattle.ec_core.specs.View.{WearsBy}
+use Rattle.ec_core.specs.Held.{awake_of, up_table, down_table, held_table, held_pin, held_device, is_up, is_kept_up, IsCalm, IsSpent, IsSilent, EventTold, answer_by, boot_hurt, on_behind}
+use Rattle.ec_core.specs.Task.{IsTakenUp, IsTakenDown, IsTaken, IsStepped, CanCarry, on_after_task, pin_after_task}
+use Rattle.ec_core.specs.declared.held.Held.{Held}
+use Rattle.ec_core.specs.declared.held.Held.TheVariants.{Down, Up}
+use Rattle.ec_core.specs.declared.task.Task.{Task}
+use Rattle.ec_core.specs.declared.task.Task.TheVariants.{Serve as ServeTask, Boot as BootTask, Stop as StopTask, SetPin as SetPinTask}
+
+-- a bus and an answer, by their parts
+bus-answer : (both : BusAnswer) (state : BusState) (answer : ℕ) → state ≡ both.state → answer ≡ both.answer → ◌≡◌ {A = BusAnswer} (record { state = state; answer = answer }) both
+bus-answer both state answer state_is answer_is =
+    ap (λ (s : BusState). let b : BusAnswer = record { state = s; answer = answer } in b) state_is
+    ∙ ap (λ (n : ℕ). let b : BusAnswer = record { state = both.state; answer = n } in b) answer_is
+
+-- what some work leaves of what is on, where the flash tells its bytes
+abbrev pub WorkTold : Hurt → BusAnswer → ℕ → Work → ℕ → RunView → Option Table → Type 0
+WorkTold hurt bus lost work said run after =
+    Follows (λ core table. WorkLeaves hurt core bus lost work (record { table = table; answer = said })) (told_core run) after
+
+-- an event leaves what its work does
+pub event-told : (hurt : Hurt) (event : Event) (old_bus bus : BusState) (answer said : ℕ) (run : RunView) (work : Work) (after : Option Table) →
+    bus ≡ (bus_after old_bus event).state → answer ≡ (bus_after old_bus event).answer → work_on (awake_of run old_bus) event ≡ work →
+    WorkTold hurt (record { state = bus; answer = answer }) (lost_answer event) work said run after → EventTold hurt event said (up_table old_bus run) after
+event-told hurt event old_bus bus answer said run work after state_is answer_is work_is told = by run.device.held after told where
+  by : (o : Option (List ℕ)) (t : Option Table) →
+      Follows (λ core table. WorkLeaves hurt core (record { state = bus; answer = answer }) (lost_answer event) work (record { table = table; answer = said })) (option_map (core_at run) o) t →
+      EventTold hurt event said (option_map (λ flash. table_of (core_at run flash) old_bus) o) t
+  by None None here = tt
+  by None (Some t) here = here
+  by (Some f) None here = here
+  by (Some f) (Some t) here =
+      subst (λ (b : BusAnswer). WorkLeaves hurt (core_at run f) b (lost_answer event) (work_on (awake_of run old_bus) event) (record { table = t; answer = said })) (bus-answer (bus_after old_bus event) bus answer state_is answer_is)
+      (subst (λ (w : Work). WorkLeaves hurt (core_at run f) (record { state = bus; answer = answer }) (lost_answer event) w (record { table = t; answer = said })) (sym work_is) here)
+
+-- whether a controller is on, where power may have been lost
+abbrev pub on_by : Hurt → Bool → Bool
+on_by Cut on = false
+on_by Whole on = on
+on_by Failed on = on
+
+on-after : (hurt : Hurt) (event : Event) (before after : Bool) → on_after_event event before ≡ after → on_behind hurt event before ≡ on_by hurt after
+on-after Whole event before after same = same
+on-after Failed event before after same = same
+on-after Cut event before after same = refl
+
+-- without power, an event that is no access answers 0
+lost-silent : (event : Event) → IsSilent event (lost_answer event)
+lost-silent (Access access) = tt
+lost-silent Tick = refl
+lost-silent (Reset cause) = refl
+lost-silent (PowerEvent on) = refl
+lost-silent (Pin on) = refl
+
+silent-by : (hurt : Hurt) (event : Event) (answer : ℕ) → IsSilent event answer → IsSilent event (answer_by hurt answer (lost_answer event))
+silent-by Whole event answer silent = silent
+silent-by Failed event answer silent = silent
+silent-by Cut event answer silent = lost-silent event
+
+-- a count that stays
+pub stays : (amount before now : ℕ) → now ≡ before → RisesAtMost amount before now
+stays amount before now same = record { least = omega arith; most = omega arith }
+
+-- a step of a controller that is on, by its parts
+pub step-up : {F : Type 0} (kind : BusKind) (event : Event) (hurt : Hurt) (answer : ℕ) (old_bus bus new_bus : BusState) (task : Option Task) (run : RunView) (new : Held F) →
+    IsTakenUp event old_bus task bus answer run → EventTold hurt event (answer_by hurt answer (lost_answer event)) (up_table old_bus run) (held_table kind new_bus new) →
+    is_up new ≡ on_by hurt (on_after_task task true) → held_pin new ≡ pin_after_task task run.pin → IsCalm new_bus new → IsSpent hurt run.device (held_device new) →
+    WearsBy event (up_table old_bus run) run.device.wear (held_device new).wear →
+    IsStepped kind event hurt (answer_by hurt answer (lost_answer event)) old_bus new_bus (Some (Up run)) (Some new)
+step-up kind event hurt answer old_bus bus new_bus task run new taken told on pin calm spent wear =
+    record {
+      told = told;
+      on = on ∙ sym (on-after hurt event true (on_after_task task true) taken.like.on_is);
+      pin = pin ∙ sym (taken.like.pin_is run.pin);
+      off = λ up. cc;
+      lost = λ cut. ap (λ (h : Hurt). answer_by h answer (lost_answer event)) cut;
+      silent = silent-by hurt event answer taken.like.silent;
+      calm = calm;
+      spent = spent;
+      wear = wear;
+    }
+
+-- a step of a controller that is off, by its parts
+pub step-down : {F : Type 0} (kind : BusKind) (event : Event) (hurt : Hurt) (answer : ℕ) (old_bus new_bus : BusState) (task : Option Task) (off : OffView) (pin : Bool) (new : Held F) → (hurt ≡ Cut → ⊥) →
+    IsTakenDown event task answer → EventTold hurt event answer (down_table kind pin off) (held_table kind new_bus new) →
+    is_up new ≡ on_after_task task false → held_pin new ≡ pin_after_task task pin → IsCalm new_bus new → IsSpent hurt off.device (held_device new) → (held_device new).wear ≡ off.device.wear →
+    IsStepped kind event hurt (answer_by hurt answer (lost_answer event)) old_bus new_bus (Some (Down off pin)) (Some new)
+step-down {F} kind event hurt answer old_bus new_bus task off pin new alive taken told on pin_is calm spent wear =
+    subst (λ (said : ℕ). IsStepped {F = F} kind event hurt said old_bus new_bus (Some (Down off pin)) (Some new)) (sym (by hurt))
+    (record {
+      told = told;
+      on = on ∙ sym (on_is hurt alive);
+      pin = pin_is ∙ sym (taken.like.pin_is pin);
+      off = λ up. taken.answer_is;
+      lost = λ cut. absurd (alive cut);
+      silent = taken.like.silent;
+      calm = calm;
+      spent = spent;
+      wear = λ table told_is. stays (length (operations_of table event)) off.device.wear (held_device new).wear wear;
+    }) where
+      by : (h : Hurt) → answer_by h answer (lost_answer event) ≡ answer
+      by Whole = refl
+      by Failed = refl
+      by Cut = sym taken.answer_is
+      on_is : (h : Hurt) → (h ≡ Cut → ⊥) → on_behind h event false ≡ on_after_task task false
+      on_is Whole lives = taken.like.on_is
+      on_is Failed lives = taken.like.on_is
+      on_is Cut lives = absurd (lives refl)
+
+-- nothing was spent
+pub unspent : (asked : ℕ) (device : DeviceView) → Costs Whole asked device device
+unspent asked device =
+    record { extent = refl; faults = omega arith; cuts = omega arith; rose = tt; fetched = stays asked device.fetched device.fetched refl }
+
+-- work that leaves all as it is
+pub rest-told : (bus : BusState) (answer lost : ℕ) (run : RunView) → WorkTold Whole (record { state = bus; answer = answer }) lost Rest answer run (up_table bus run)
+rest-told bus answer lost run = by run.device.held where
+  by : (o : Option (List ℕ)) → Follows (λ core table. WorkLeaves Whole core (record { state = bus; answer = answer }) lost Rest (record { table = table; answer = answer })) (option_map (core_at run) o) (option_map (λ flash. table_of (core_at run flash) bus) o)
+  by None = tt
+  by (Some f) = refl
+
+rest-down : (kind : BusKind) (event : Event) (pin : Bool) (off : OffView) (answer : ℕ) → answer ≡ lost_answer event → work_off event ≡ Rest → EventTold Whole event answer (down_table kind pin off) (down_table kind pin off)
+rest-down kind event pin off answer answer_is work_is = by off.device.held where
+  by : (o : Option (List ℕ)) → EventTold Whole event answer (option_map (λ flash. off_table flash pin kind) o) (option_map (λ flash. off_table flash pin kind) o)
+  by None = tt
+  by (Some f) =
+      subst (λ (w : Work). ◌≡◌ {A = After} (record { table = off_table f pin kind; answer = answer }) (worked_off (off_table f pin kind) event w)) (sym work_is)
+      (ap (λ (n : ℕ). let a : After = record { table = off_table f pin kind; answer = n } in a) answer_is)
+
+-- an event without a task leaves what is held
+pub stepped-rest : {F : Type 0} (kind : BusKind) (event : Event) (answer : ℕ) (old_bus bus : BusState) (held : Option (Held F)) → IsTaken event old_bus None bus answer held → IsStepped kind event Whole answer old_bus bus held held
+stepped-rest kind event answer old_bus bus None taken = absurd taken
+stepped-rest {F} kind event answer old_bus bus (Some (Up run)) taken =
+    step-up {F = F} kind event Whole answer old_bus bus bus None run (Up run) taken
+    (event-told Whole event old_bus bus answer answer run Rest (up_table bus run) taken.state taken.answer_is taken.task_is (rest-told bus answer (lost_answer event) run))
+    refl refl taken.calm (unspent 1024 run.device) (λ table told. stays (length (operations_of table event)) run.device.wear run.device.wear refl)
+stepped-rest {F} kind event answer old_bus bus (Some (Down off pin)) taken =
+    step-down {F = F} kind event Whole answer old_bus bus None off pin (Down off pin) (λ cut. cc) taken
+    (rest-down kind event pin off answer taken.answer_is (taken.task_is bus)) refl refl tt (unspent 1024 off.device) refl
+
+-- a stop
+stop-told : (bus : BusState) (kind : BusKind) (answer lost : ℕ) (run : RunView) (off : OffView) → kind_of bus ≡ kind → off.device ≡ run.device →
+    WorkTold Whole (record { state = bus; answer = answer }) lost Stop answer run (down_table kind run.pin off)
+stop-told bus kind answer lost run off kind_is device_is =
+    subst (λ (device : DeviceView). WorkTold Whole (record { state = bus; answer = answer }) lost Stop answer run (option_map (λ flash. off_table flash run.pin kind) device.held)) (sym device_is) (by run.device.held) where
+  by : (o : Option (List ℕ)) → Follows (λ core table. WorkLeaves Whole core (record { state = bus; answer = answer }) lost Stop (record { table = table; answer = answer })) (option_map (core_at run) o) (option_map (λ flash. off_table flash run.pin kind) o)
+  by None = tt
+  by (Some f) = ap (λ (k : BusKind). let a : After = record { table = off_table f run.pin k; answer = answer } in a) (sym kind_is)
+
+pub stopped-up : {F : Type 0} (kind : BusKind) (event : Event) (answer : ℕ) (old_bus bus : BusState) (run : RunView) (off : OffView) (pin : Bool) → kind_of bus ≡ kind → off.device ≡ run.device → pin ≡ run.pin →
+    IsTakenUp event old_bus (Some StopTask) bus answer run → IsStepped {F = F} kind event Whole answer old_bus bus (Some (Up run)) (Some (Down off pin))
+stopped-up {F} kind event answer old_bus bus run off pin kind_is device_is pin_is taken =
+    subst (λ (p : Bool). IsStepped {F = F} kind event Whole answer old_bus bus (Some (Up run)) (Some (Down off p))) (sym pin_is)
+    (step-up {F = F} kind event Whole answer old_bus bus bus (Some StopTask) run (Down off run.pin) taken
+    (event-told Whole event old_bus bus answer answer run Stop (down_table kind run.pin off) taken.state taken.answer_is taken.task_is (stop-told bus kind answer (lost_answer event) run off kind_is device_is))
+    refl refl tt (subst (λ (device : DeviceView). IsSpent Whole run.device device) (sym device_is) (unspent 1024 run.device))
+    (λ table told. stays (length (operations_of table event)) run.device.wear off.device.wear (ap (λ (device : DeviceView). device.wear) device_is)))
+
+-- a change of the pin
+pin-told : (bus : BusState) (answer lost : ℕ) (on : Bool) (run : RunView) → WorkTold Whole (record { state = bus; answer = answer }) lost (SetPin on) answer run (up_table bus (record run { pin = on }))
+pin-told bus answer lost on run = by run.device.held where
+  by : (o : Option (List ℕ)) → Follows (λ core table. WorkLeaves Whole core (record { state = bus; answer = answer }) lost (SetPin on) (record { table = table; answer = answer })) (option_map (core_at run) o) (option_map (λ flash. table_of (core_at (record run { pin = on }) flash) bus) o)
+  by None = tt
+  by (Some f) = refl
+
+pub pinned-up : {F : Type 0} (kind : BusKind) (event : Event) (on : Bool) (answer : ℕ) (old_bus bus : BusState) (run next : RunView) → next ≡ record run { pin = on } →
+    IsTakenUp event old_bus (Some (SetPinTask on)) bus answer run → IsStepped {F = F} kind event Whole answer old_bus bus (Some (Up run)) (Some (Up next))
+pinned-up {F} kind event on answer old_bus bus run next next_is taken =
+    subst (λ (r : RunView). IsStepped {F = F} kind event Whole answer old_bus bus (Some (Up run)) (Some (Up r))) (sym next_is)
+    (step-up {F = F} kind event Whole answer old_bus bus bus (Some (SetPinTask on)) run (Up (record run { pin = on })) taken
+    (event-told Whole event old_bus bus answer answer run (SetPin on) (up_table bus (record run { pin = on })) taken.state taken.answer_is taken.task_is (pin-told bus answer (lost_answer event) on run))
+    refl refl taken.calm (unspent 1024 run.device) (λ table told. stays (length (operations_of table event)) run.device.wear run.device.wear refl))
+
+-- only a change of the pin has a controller set it that is off, and that answers nothing
+pub record IsPin (event : Event) (on : Bool) : Type 0 where
+  pub event_is : event ≡ Pin on
+
+pin-event : (event : Event) (on : Bool) → work_off event ≡ SetPin on → IsPin event on
+pin-event (Access access) on same = cc
+pin-event Tick on same = cc
+pin-event (Reset other) on same = cc
+pin-event (PowerEvent true) on same = cc
+pin-event (PowerEvent false) on same = cc
+pin-event (Pin other) on same = record { event_is = cc }
+
+pin-off-told : (kind : BusKind) (pin on : Bool) (off : OffView) → EventTold Whole (Pin on) 0 (down_table kind pin off) (down_table kind on off)
+pin-off-told kind pin on off = by off.device.held where
+  by : (o : Option (List ℕ)) → EventTold Whole (Pin on) 0 (option_map (λ flash. off_table flash pin kind) o) (option_map (λ flash. off_table flash on kind) o)
+  by None = tt
+  by (Some f) = refl
+
+pub pinned-down : {F : Type 0} (kind : BusKind) (event : Event) (on : Bool) (answer : ℕ) (old_bus bus : BusState) (off : OffView) (pin : Bool) → IsTakenDown event (Some (SetPinTask on)) answer →
+    IsStepped {F = F} kind event Whole answer old_bus bus (Some (Down off pin)) (Some (Down off on))
+pinned-down {F} kind event on answer old_bus bus off pin taken =
+    let is = pin-event event on (taken.task_is old_bus) in
+    let nothing : answer ≡ 0 = taken.answer_is ∙ ap lost_answer is.event_is in
+    let here : EventTold Whole event answer (down_table kind pin off) (down_table kind on off) =
+        subst (λ (e : Event). EventTold Whole e answer (down_table kind pin off) (down_table kind on off)) (sym is.event_is)
+        (subst (λ (n : ℕ). EventTold Whole (Pin on) n (down_table kind pin off) (down_table kind on off)) (sym nothing) (pin-off-told kind pin on off)) in
+    step-down {F = F} kind event Whole answer old_bus bus (Some (SetPinTask on)) off pin (Down off on) (λ cut. cc) taken here refl refl tt (unspent 1024 off.device) refl
+
+-- a request is there where one is to be served, and only a controller that is on serves or stops
+serves-not : (event : Event) (request : List ℕ) → work_off event ≡ Serve request → ⊥
+serves-not (Access access) request same = cc
+serves-not Tick request same = cc
+serves-not (Reset other) request same = cc
+serves-not (PowerEvent true) request same = cc
+serves-not (PowerEvent false) request same = cc
+serves-not (Pin other) request same = cc
+
+stops-not : (event : Event) → work_off event ≡ Stop → ⊥
+stops-not (Access access) same = cc
+stops-not Tick same = cc
+stops-not (Reset other) same = cc
+stops-not (PowerEvent true) same = cc
+stops-not (PowerEvent false) same = cc
+stops-not (Pin other) same = cc
+
+is-some : (o : Option (List ℕ)) (request : List ℕ) → o ≡ Some request → is_some o ≡ true
+is-some o request same = ap (λ (p : Option (List ℕ)). is_some p) same
+
+pub can-carry : {F : Type 0} (event : Event) (old_bus bus : BusState) (task : Task) (answer : ℕ) (held : Option (Held F)) → IsTaken event old_bus (Some task) bus answer held → CanCarry task bus (is_kept_up held)
+can-carry event old_bus bus task answer None taken = absurd taken
+can-carry event old_bus bus ServeTask answer (Some (Up run)) taken = is-some (asked_of bus) taken.task_is.request taken.task_is.asked
+can-carry event old_bus bus (BootTask cause) answer (Some (Up run)) taken = tt
+can-carry event old_bus bus StopTask answer (Some (Up run)) taken = tt
+can-carry event old_bus bus (SetPinTask on) answer (Some (Up run)) taken = tt
+can-carry event old_bus bus ServeTask answer (Some (Down off pin)) taken = serves-not event (taken.task_is bus).request (taken.task_is bus).serves
+can-carry event old_bus bus (BootTask cause) answer (Some (Down off pin)) taken = tt
+can-carry event old_bus bus StopTask answer (Some (Down off pin)) taken = stops-not event (taken.task_is bus)
+can-carry event old_bus bus (SetPinTask on) answer (Some (Down off pin)) taken = tt

@@ -1,0 +1,11 @@
+use Rattle.ec_types.specs.Tables.{packet_limit}
+use Rattle.ec_core.proofs.ServeLemmas.{packet-answered, packet-refused}
+use Rattle.ec_core.proofs.serve.answer_packet.Goals as goal
+
+pub returns-in-Err : goal.returns-in-Err
+returns-in-Err g c =
+    packet-refused c.args.kind c.args.bytes.now c.in-Err.status c.refuse.new.self.hurt c.refuse.new.self.status c.refuse.new.self.body c.args.on c.in-Err.ensures.framed c.refuse.ensures.hurt c.refuse.ensures.status c.refuse.ensures.body
+
+pub returns-in-Ok : goal.returns-in-Ok
+returns-in-Ok g c =
+    packet-answered {F = g.row.F.Denot} (packet_limit c.args.kind) c.args.bytes.now c.in-Ok.request c.answer.new.reply.hurt c.answer.new.reply.status c.answer.new.reply.body c.args.on c.answer.result c.in-Ok.ensures.framed c.answer.ensures

@@ -1,0 +1,99 @@
+-- What an event has the controller do, and what is left once that is done.
+use Rattle.std.specs.Prelude.{◌≡◌, ℕ, Bool, true, false, IsNone, IsSome, IsFalse, List, Option, Some, None, ⊤}
+use Rattle.ec_types.specs.declared.bus.BusKind.{BusKind}
+use Rattle.ec_model.specs.declared.event.Event.{Event}
+use Rattle.ec_model.specs.declared.event.Hurt.{Hurt}
+use Rattle.ec_model.specs.declared.event.Hurt.TheVariants.{Whole, Failed, Cut}
+use Rattle.ec_model.specs.Bus.{BusState, BusAnswer, due_now}
+use Rattle.ec_model.specs.HostCalls.{on_after_event}
+use Rattle.ec_model.specs.Guarded.{pin_after}
+use Rattle.ec_model.specs.Step.{Work, Rest, Serve, Boot, Stop, SetPin, work_on, work_off, bus_after, lost_answer}
+use Rattle.ec_wire.specs.Dues.{asked_of}
+use Rattle.ec_boot.specs.States.{RunView}
+use Rattle.ec_core.specs.Held.{awake_of, kept_table, kept_device, kept_pin, is_kept_up, IsKept, IsSpent, IsSilent, EventTold, answer_by, on_behind}
+use Rattle.ec_core.specs.View.{WearsBy}
+use Rattle.ec_core.specs.declared.held.Held.{Held}
+use Rattle.ec_core.specs.declared.held.Held.TheVariants.{Down, Up}
+use Rattle.ec_core.specs.declared.task.Task.{Task}
+use Rattle.ec_core.specs.declared.task.Task.TheVariants.{Serve as ServeTask, Boot as BootTask, Stop as StopTask, SetPin as SetPinTask}
+
+-- the work is to serve the request that the bus has
+pub record IsServing (bus : BusState) (work : Work) : Type 0 where
+  pub request : List ℕ
+  pub serves : work ≡ Serve request
+  pub asked : asked_of bus ≡ Some request
+
+-- a task, if there is one, is this work; the request of one that serves is on the bus
+abbrev pub IsTask : Option Task → BusState → Work → Type 0
+IsTask None bus work = work ≡ Rest
+IsTask (Some ServeTask) bus work = IsServing bus work
+IsTask (Some (BootTask cause)) bus work = work ≡ Boot cause
+IsTask (Some StopTask) bus work = work ≡ Stop
+IsTask (Some (SetPinTask on)) bus work = work ≡ SetPin on
+
+-- no request is due now but one to serve
+abbrev pub IsCalmBut : Option Task → BusState → Type 0
+IsCalmBut (Some ServeTask) bus = ⊤
+IsCalmBut other bus = IsNone (due_now bus)
+
+-- a request to serve is there, and only a controller that is on serves or stops
+abbrev pub CanCarry : Task → BusState → Bool → Type 0
+CanCarry ServeTask bus true = IsSome (asked_of bus)
+CanCarry ServeTask bus false = ⊥
+CanCarry StopTask bus false = ⊥
+CanCarry other bus on = ⊤
+
+-- whether the controller is on once a task is done whole
+abbrev pub on_after_task : Option Task → Bool → Bool
+on_after_task (Some StopTask) before = false
+on_after_task (Some (BootTask cause)) before = true
+on_after_task other before = before
+
+-- the pin once a task is done
+abbrev pub pin_after_task : Option Task → Bool → Bool
+pin_after_task (Some (SetPinTask on)) before = on
+pin_after_task other before = before
+
+-- a task leaves the power and the pin as its event does, and an event that is no access answers 0
+pub record IsLike (event : Event) (task : Option Task) (answer : ℕ) (on : Bool) : Type 0 where
+  pub on_is : on_after_event event on ≡ on_after_task task on
+  pub pin_is : (pin : Bool) → pin_after event pin ≡ pin_after_task task pin
+  pub silent : IsSilent event answer
+
+-- a controller that is on took an event
+pub record IsTakenUp (event : Event) (old_bus : BusState) (task : Option Task) (bus : BusState) (answer : ℕ) (run : RunView) : Type 0 where
+  pub state : bus ≡ (bus_after old_bus event).state
+  pub answer_is : answer ≡ (bus_after old_bus event).answer
+  pub task_is : IsTask task bus (work_on (awake_of run old_bus) event)
+  pub calm : IsCalmBut task bus
+  pub like : IsLike event task answer true
+
+-- a controller that is off took an event
+pub record IsTakenDown (event : Event) (task : Option Task) (answer : ℕ) : Type 0 where
+  pub answer_is : answer ≡ lost_answer event
+  pub task_is : (bus : BusState) → IsTask task bus (work_off event)
+  pub like : IsLike event task answer false
+
+-- a controller took an event
+abbrev pub IsTaken : {F : Type 0} → Event → BusState → Option Task → BusState → ℕ → Option (Held F) → Type 0
+IsTaken event old_bus task bus answer None = ⊥
+IsTaken event old_bus task bus answer (Some (Up run)) = IsTakenUp event old_bus task bus answer run
+IsTaken event old_bus task bus answer (Some (Down off pin)) = IsTakenDown event task answer
+
+-- what an event made of what a controller holds, and answered
+pub record IsStepped {F : Type 0} (kind : BusKind) (event : Event) (hurt : Hurt) (answer : ℕ) (old_bus bus : BusState) (old new : Option (Held F)) : Type 0 where
+  pub told : EventTold hurt event answer (kept_table kind old_bus old) (kept_table kind bus new)
+  pub on : is_kept_up new ≡ on_behind hurt event (is_kept_up old)
+  pub pin : kept_pin new ≡ pin_after event (kept_pin old)
+  pub off : IsFalse (is_kept_up old) → answer ≡ lost_answer event
+  pub lost : hurt ≡ Cut → answer ≡ lost_answer event
+  pub silent : IsSilent event answer
+  pub calm : IsKept bus new
+  pub spent : IsSpent hurt (kept_device old) (kept_device new)
+  pub wear : WearsBy event (kept_table kind old_bus old) (kept_device old).wear (kept_device new).wear
+
+-- what a task made of what a controller holds, for each event that it is the task of
+abbrev pub IsCarried : {F : Type 0} → BusKind → Task → Hurt → BusState → BusState → Option (Held F) → Option (Held F) → Type 0
+IsCarried kind task hurt bus new_bus old new =
+    (event : Event) (old_bus : BusState) (answer : ℕ) → IsTaken event old_bus (Some task) bus answer old →
+    IsStepped kind event hurt (answer_by hurt answer (lost_answer event)) old_bus new_bus old new

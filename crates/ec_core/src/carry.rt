@@ -1,0 +1,113 @@
+// What a task makes of what the controller holds.
+ghost use Rattle.std.specs.Prelude.{◌≡◌, Some, IsSome, true, false};
+ghost use Rattle.ec_core.specs.declared.held.Held.TheVariants.{Up, Down};
+ghost use Rattle.ec_core.specs.Held.{boot_hurt, is_up, is_kept_up};
+ghost use Rattle.ec_core.specs.Task.{IsCarried, CanCarry};
+
+use crate::held::Held;
+use crate::serve::serve;
+use crate::task::Task;
+use ec_boot::{InRo, Off, Running};
+use ec_model::Hurt;
+use ec_wire::Bus;
+use flash_dev::FlashDev;
+
+/// What is held once a task is done, and what a flash call did.
+pub struct Carried<F: FlashDev> {
+    pub held: Held<F>,
+    pub hurt: Hurt,
+}
+
+// A controller that booted. Where the stored protection could not be read, a flash call failed.
+fn booted<F: FlashDev>(on: InRo<F>) -> Carried<F>
+    ensures held { result.held ≡ Up on }
+    ensures hurt { result.hurt ≡ boot_hurt on.live.pstate_bad }
+{
+    let hurt = if on.live().pstate_bad {
+        Hurt::Failed
+    } else {
+        Hurt::Whole
+    };
+    Carried {
+        held: Held::Up(on),
+        hurt,
+    }
+}
+
+// A task of a controller that is on.
+fn carry_up<B: Bus + Drop, F: FlashDev>(mut on: InRo<F>, bus: &mut B, task: Task) -> Carried<F>
+    requires { CanCarry task (B.state bus.old) true }
+    ensures { IsCarried B.bus task result.hurt (B.state bus.old) (B.state bus.new) (Some (Up on)) (Some result.held) }
+{
+    match task {
+        Task::Serve => serve(on, bus),
+        Task::Boot { cause } => {
+            *bus = B::fresh();
+            booted(on.reset(cause))
+        }
+        Task::Stop => {
+            let pin = on.pin();
+            Carried {
+                held: Held::Down {
+                    off: on.cut(),
+                    pin,
+                },
+                hurt: Hurt::Whole,
+            }
+        }
+        Task::SetPin { on: level } => {
+            on.set_pin(level);
+            Carried {
+                held: Held::Up(on),
+                hurt: Hurt::Whole,
+            }
+        }
+    }
+}
+
+// A task of a controller that is off.
+fn carry_down<B: Bus + Drop, F: FlashDev>(off: Off<F>, pin: bool, bus: &mut B, task: Task) -> Carried<F>
+    requires { CanCarry task (B.state bus.old) false }
+    ensures { IsCarried B.bus task result.hurt (B.state bus.old) (B.state bus.new) (Some (Down off pin)) (Some result.held) }
+{
+    match task {
+        Task::Boot { cause: _ } => {
+            *bus = B::fresh();
+            booted(off.power_on(pin))
+        }
+        Task::SetPin { on } => Carried {
+            held: Held::Down { off, pin: on },
+            hurt: Hurt::Whole,
+        },
+        Task::Serve | Task::Stop => unreachable!(),
+    }
+}
+
+// A task.
+fn carry<B: Bus + Drop, F: FlashDev>(held: Held<F>, bus: &mut B, task: Task) -> Carried<F>
+    requires { CanCarry task (B.state bus.old) (is_up held) }
+    ensures { IsCarried B.bus task result.hurt (B.state bus.old) (B.state bus.new) (Some held) (Some result.held) }
+{
+    match held {
+        Held::Up(on) => carry_up(on, bus, task),
+        Held::Down { off, pin } => carry_down(off, pin, bus, task),
+    }
+}
+
+/// Does a task on what a controller holds. Gives what a flash call did.
+pub fn carry_out<B: Bus + Drop, F: FlashDev>(held: &mut Option<Held<F>>, bus: &mut B, task: Task) -> Hurt
+    requires held { IsSome held.old }
+    requires task { CanCarry task (B.state bus.old) (is_kept_up held.old) }
+    ensures { IsCarried B.bus task result (B.state bus.old) (B.state bus.new) held.old held.new }
+{
+    match held.take() {
+        Some(before) => {
+            let Carried { held: after, hurt } = carry(before, bus, task);
+            match held.replace(after) {
+                None => hurt,
+                Some(_) => unreachable!(),
+            }
+        }
+        None => unreachable!(),
+    }
+}
