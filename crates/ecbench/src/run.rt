@@ -21,24 +21,31 @@ use ec_types::Why;
 use ec_wire::{Journal, Wire};
 use flash_dev::{Failed, FlashDev, Geometry};
 use std::alloc::Global;
+use thiserror::Error;
 
 /// The room that the journal has for the one line, with the power-on and the mark.
 const ROOM: usize = 1502;
 
 /// How a run ended.
-#[derive(Clone, Copy, Debug, PartialEq, Eq)]
+#[derive(Clone, Copy, Debug, PartialEq, Eq, Error)]
 pub enum Exit {
     /// The script was read to its end, and every line was carried out.
+    #[error("done")]
     Done,
     /// The flash has none of the sizes that a controller's flash may have.
+    #[error("the flash has none of the sizes 65536, 131072, 262144, 524288 and 1048576 bytes")]
     BadFlash,
     /// This line, counted from 1, is outside the grammar; those before it were carried out.
+    #[error("line {line}: {why}")]
     BadLine { line: u32, why: Why },
     /// The source failed.
+    #[error("the script could not be read")]
     SourceFault,
-    /// The sink failed: a front of the text was written.
+    /// The sink failed: the first bytes of a text were written, but not all.
+    #[error("the text could not be written")]
     SinkFault,
     /// Memory was refused.
+    #[error("out of memory")]
     NoMemory,
 }
 
