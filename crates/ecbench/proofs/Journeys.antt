@@ -10,7 +10,7 @@ use Rattle.ec_wire.specs.Calls.{WireView, RunsAlong, with_spare}
 use Rattle.bench_wire.specs.Adding.{Extends}
 use Rattle.bench_wire.proofs.Extending.{extends-then, extends-grows, extends-nil}
 use Rattle.ecbench.specs.declared.run.Exit.{Exit}
-use Rattle.ecbench.specs.declared.run.Exit.TheVariants.{Done, BadFlash, BadLine, SourceFault, SinkFault, NoMemory}
+use Rattle.ecbench.specs.declared.run.Exit.TheVariants.{Done, BadWords, BadFlash, BadLine, SourceFault, SinkFault, NoMemory}
 use Rattle.ecbench.specs.Endings.{power_on, RunsTo}
 use Rattle.ecbench.specs.Serving.{PowersOn, CarriesLine, CarriesOut, ServesScript, ServesBy, Serves, Drives}
 
@@ -33,6 +33,7 @@ same-grew old new same = subst (λ (view : WireView). Grew old view) (sym same) 
 
 carried-grew : (exit : Exit) (script : List ℕ) (old new : WireView) (before after : Option (List ℕ)) → CarriesOut exit script old new before after → Grew old new
 carried-grew Done script old new before after carried = line-grew carried.1.text old new carried.1.line
+carried-grew BadWords script old new before after carried = absurd carried
 carried-grew BadFlash script old new before after carried = absurd carried
 carried-grew (BadLine line reason) script old new before after carried = same-grew old new carried.3
 carried-grew SourceFault script old new before after carried = absurd carried
@@ -41,6 +42,7 @@ carried-grew NoMemory script old new before after carried = absurd carried
 
 served-grew : (exit : Exit) (old new : WireView) (left rest before after : Option (List ℕ)) → ServesBy exit old new left rest before after → Grew old new
 served-grew Done old new left rest before after served = carried-grew Done served.script old new before after served.carried
+served-grew BadWords old new left rest before after served = carried-grew BadWords served.script old new before after served.carried
 served-grew BadFlash old new left rest before after served = carried-grew BadFlash served.script old new before after served.carried
 served-grew (BadLine line reason) old new left rest before after served = carried-grew (BadLine line reason) served.script old new before after served.carried
 served-grew SourceFault old new left rest before after served = same-grew old new served.0
@@ -61,6 +63,7 @@ behind-room exit old new left rest before after (spare, serves) =
 -- all that a run added
 pub drives-grew : (exit : Exit) (old new : WireView) (left rest before after : Option (List ℕ)) → Drives exit old new left rest before after → Grew old new
 drives-grew Done old new left rest before after drives = behind-room Done old new left rest before after drives
+drives-grew BadWords old new left rest before after drives = behind-room BadWords old new left rest before after drives
 drives-grew BadFlash old new left rest before after drives = behind-room BadFlash old new left rest before after drives
 drives-grew (BadLine line reason) old new left rest before after drives = behind-room (BadLine line reason) old new left rest before after drives
 drives-grew SourceFault old new left rest before after drives = behind-room SourceFault old new left rest before after drives

@@ -3,7 +3,6 @@ use Rattle.std.proofs.Common.{◌≡◌, sym, ap, ◌∙◌, subst, ℕ, ◌+◌
 use Rattle.std.specs.Prelude.{◌⊎◌, IfSome}
 use Rattle.std.proofs.lemmas.Bool.{cases_lt}
 use Rattle.std.proofs.lemmas.List.{append-nil}
-use Rattle.flash_dev.specs.Ranges.{is_flash_size}
 use Rattle.ec_types.specs.declared.bus.BusKind.{BusKind}
 use Rattle.ec_types.specs.declared.bus.BusKind.TheVariants.{Lpc}
 use Rattle.ec_model.specs.declared.event.Entry.{Entry}
@@ -11,10 +10,10 @@ use Rattle.ec_model.specs.declared.event.Entry.TheVariants.{Mark}
 use Rattle.ec_wire.specs.Calls.{WireView, with_spare}
 use Rattle.host_transport.specs.Once.{AskedOnce}
 use Rattle.ecbench.specs.declared.run.Exit.{Exit}
-use Rattle.ecbench.specs.declared.run.Exit.TheVariants.{Done, BadFlash, BadLine, SourceFault, SinkFault, NoMemory}
+use Rattle.ecbench.specs.declared.run.Exit.TheVariants.{Done, BadWords, BadFlash, BadLine, SourceFault, SinkFault, NoMemory}
 use Rattle.ecbench.specs.Reading.{Takes}
 use Rattle.ecbench.specs.Hello.{IsHello, hello_request}
-use Rattle.ecbench.specs.Endings.{power_on, OnlyPowered, Carried, Ends}
+use Rattle.ecbench.specs.Endings.{power_on, OnlyPowered, Carried, IsStarted, Ends}
 use Rattle.ecbench.specs.Serving.{PowersOn, CarriesLine, ServesScript, Serves, Drives}
 
 -- the script that was taken whole is all that was left
@@ -81,36 +80,37 @@ carried-line spare text start powered new empty bus powers line =
     }
 
 -- what each exit says
-pub drives-ends : (exit : Exit) (size : ℕ) (start new : WireView) (left rest before after : Option (List ℕ)) → is_flash_size size ≡ true → start.entries ≡ [] → start.bus ≡ Lpc → Drives exit start new left rest before after → Ends exit size left rest before after new.entries
-drives-ends Done size start new left rest before after allowed empty bus (spare, serves) =
+pub drives-ends : (exit : Exit) (words : List (List ℕ)) (size : ℕ) (start new : WireView) (left rest before after : Option (List ℕ)) → IsStarted words size → start.entries ≡ [] → start.bus ≡ Lpc → Drives exit start new left rest before after → Ends exit words size left rest before after new.entries
+drives-ends Done words size start new left rest before after started empty bus (spare, serves) =
     let script = serves.served in
     let carried = script.carried in
     let end = script.whole (hello-short script.script carried.0) in (
-      allowed,
+      started,
       taken-whole IsHello script.script left rest script.taken end carried.0,
       end,
       record { text = carried.1.text; carried = carried-line spare carried.1.text start serves.powered new empty bus serves.powers carried.1.line; printed = carried.1.printed },
     )
-drives-ends BadFlash size start new left rest before after allowed empty bus (spare, serves) = absurd serves.served.carried
-drives-ends (BadLine line reason) size start new left rest before after allowed empty bus (spare, serves) =
+drives-ends BadWords words size start new left rest before after started empty bus (spare, serves) = absurd serves.served.carried
+drives-ends BadFlash words size start new left rest before after started empty bus (spare, serves) = absurd serves.served.carried
+drives-ends (BadLine line reason) words size start new left rest before after started empty bus (spare, serves) =
     let script = serves.served in
     let refused = script.carried in (
-      allowed,
+      started,
       refused.0,
       refused.1,
       refused-left script.script left rest script.taken script.whole refused.2,
       refused.4,
       only-powered spare start serves.powered new empty serves.powers refused.3,
     )
-drives-ends SourceFault size start new left rest before after allowed empty bus (spare, serves) =
-    (allowed, serves.served.1, only-powered spare start serves.powered new empty serves.powers serves.served.0)
-drives-ends SinkFault size start new left rest before after allowed empty bus (spare, serves) =
+drives-ends SourceFault words size start new left rest before after started empty bus (spare, serves) =
+    (started, serves.served.1, only-powered spare start serves.powered new empty serves.powers serves.served.0)
+drives-ends SinkFault words size start new left rest before after started empty bus (spare, serves) =
     let script = serves.served in
     let carried = script.carried in
     let end = script.whole (hello-short script.script carried.0) in (
-      allowed,
+      started,
       taken-whole IsHello script.script left rest script.taken end carried.0,
       record { text = carried.1.text; carried = carried-line spare carried.1.text start serves.powered new empty bus serves.powers carried.1.line; printed = carried.1.printed },
     )
-drives-ends NoMemory size start new left rest before after allowed empty bus drives =
-    (allowed, drives.1, drives.2, ap (λ (view : WireView). view.entries) drives.0 ∙ empty)
+drives-ends NoMemory words size start new left rest before after started empty bus drives =
+    (started, drives.1, drives.2, ap (λ (view : WireView). view.entries) drives.0 ∙ empty)

@@ -14,7 +14,7 @@ use Rattle.ec_core.specs.View.{EcView}
 use Rattle.bench_wire.specs.BenchView.{BenchView, wire_view}
 use Rattle.ecbench.specs.declared.run.Exit.{Exit}
 use Rattle.ecbench.specs.declared.run.Exit.TheVariants.{Done}
-use Rattle.ecbench.specs.Endings.{Ends, RunsTo, NothingFailed, GreetsWell}
+use Rattle.ecbench.specs.Endings.{IsStarted, Ends, RunsTo, NothingFailed, GreetsWell}
 use Rattle.ecbench.specs.Serving.{Drives}
 use Rattle.ecbench.proofs.Served.{drives-ends}
 use Rattle.ecbench.proofs.Journeys.{Grew, drives-grew, runs-to}
@@ -45,11 +45,11 @@ entries-of : (bench : BenchView) (left : DeviceView) (journal : JournalView) →
 entries-of bench left journal hands = ap (λ (j : JournalView). j.entries) hands.journal
 
 -- what the exit says
-pub run-ends : (exit : Exit) (came left : DeviceView) (bench after : BenchView) (journal : JournalView) (script rest before printed : Option (List ℕ)) → is_flash_size came.extent ≡ true → Opens came bench → HandsBack after left journal →
-    Drives exit (wire_view Lpc bench) (wire_view Lpc after) script rest before printed → Ends exit came.extent script rest before printed journal.entries
-run-ends exit came left bench after journal script rest before printed allowed opened hands drives =
-    subst (λ (entries : List Entry). Ends exit came.extent script rest before printed entries) (sym (entries-of after left journal hands))
-    (drives-ends exit came.extent (wire_view Lpc bench) (wire_view Lpc after) script rest before printed allowed opened.empty refl drives)
+pub run-ends : (exit : Exit) (words : List (List ℕ)) (came left : DeviceView) (bench after : BenchView) (journal : JournalView) (script rest before printed : Option (List ℕ)) → IsStarted words came.extent → Opens came bench → HandsBack after left journal →
+    Drives exit (wire_view Lpc bench) (wire_view Lpc after) script rest before printed → Ends exit words came.extent script rest before printed journal.entries
+run-ends exit words came left bench after journal script rest before printed started opened hands drives =
+    subst (λ (entries : List Entry). Ends exit words came.extent script rest before printed entries) (sym (entries-of after left journal hands))
+    (drives-ends exit words came.extent (wire_view Lpc bench) (wire_view Lpc after) script rest before printed started opened.empty refl drives)
 
 -- all of the journal was added
 grew-all : (exit : Exit) (came left : DeviceView) (bench after : BenchView) (journal : JournalView) (script rest before printed : Option (List ℕ)) → Opens came bench → HandsBack after left journal →

@@ -18,7 +18,8 @@ use Rattle.ec_wire.specs.Quiet.{quiet_entry}
 use Rattle.host_runs.specs.Exchange.{lpc_exchange}
 use Rattle.host_transport.specs.Once.{Ending, AskedOnce}
 use Rattle.ecbench.specs.declared.run.Exit.{Exit}
-use Rattle.ecbench.specs.declared.run.Exit.TheVariants.{Done, BadFlash, BadLine, SourceFault, SinkFault, NoMemory}
+use Rattle.ecbench.specs.declared.run.Exit.TheVariants.{Done, BadWords, BadFlash, BadLine, SourceFault, SinkFault, NoMemory}
+use Rattle.ecbench.specs.Words.{are_words}
 use Rattle.ecbench.specs.Reading.{Appends, AppendsFront}
 use Rattle.ecbench.specs.Texts.{printed, answer_text}
 use Rattle.ecbench.specs.Hello.{IsHello, hello_request, hello_response, hello_text}
@@ -53,22 +54,29 @@ pub record PrintsFront (entries : List Entry) (old new : Option (List ℕ)) : Ty
   pub carried : Carried entries text
   pub printed : AppendsFront text old new
 
--- what an exit says: of the flash's size, of the script before and what is left of it, of the printed bytes before and
--- after, and of the journal
-abbrev pub Ends : Exit → ℕ → Option (List ℕ) → Option (List ℕ) → Option (List ℕ) → Option (List ℕ) → List Entry → Type 0
-Ends Done size left rest old new entries =
-    IsTrue (is_flash_size size) × IfSome left IsHello × IfSome rest (λ bytes. bytes ≡ []) × PrintsLine entries old new
-Ends BadFlash size left rest old new entries =
-    IsFalse (is_flash_size size) × (rest ≡ left) × Appends [] old new × (entries ≡ [])
-Ends (BadLine line reason) size left rest old new entries =
-    IsTrue (is_flash_size size) × (line ≡ 1) × (reason ≡ why.Word) × IfSome left (λ script. IsHello script → ⊥)
+-- the words are the command's, and the flash has a size that a controller's flash may have
+pub record IsStarted (words : List (List ℕ)) (size : ℕ) : Type 0 where
+  pub worded : IsTrue (are_words words)
+  pub sized : IsTrue (is_flash_size size)
+
+-- what an exit says: of the words and the flash's size, of the script before and what is left of it, of the printed bytes
+-- before and after, and of the journal
+abbrev pub Ends : Exit → List (List ℕ) → ℕ → Option (List ℕ) → Option (List ℕ) → Option (List ℕ) → Option (List ℕ) → List Entry → Type 0
+Ends Done words size left rest old new entries =
+    IsStarted words size × IfSome left IsHello × IfSome rest (λ bytes. bytes ≡ []) × PrintsLine entries old new
+Ends BadWords words size left rest old new entries =
+    IsFalse (are_words words) × (rest ≡ left) × Appends [] old new × (entries ≡ [])
+Ends BadFlash words size left rest old new entries =
+    IsTrue (are_words words) × IsFalse (is_flash_size size) × (rest ≡ left) × Appends [] old new × (entries ≡ [])
+Ends (BadLine line reason) words size left rest old new entries =
+    IsStarted words size × (line ≡ 1) × (reason ≡ why.Word) × IfSome left (λ script. IsHello script → ⊥)
     × Appends [] old new × OnlyPowered entries
-Ends SourceFault size left rest old new entries =
-    IsTrue (is_flash_size size) × Appends [] old new × OnlyPowered entries
-Ends SinkFault size left rest old new entries =
-    IsTrue (is_flash_size size) × IfSome left IsHello × PrintsFront entries old new
-Ends NoMemory size left rest old new entries =
-    IsTrue (is_flash_size size) × (rest ≡ left) × Appends [] old new × (entries ≡ [])
+Ends SourceFault words size left rest old new entries =
+    IsStarted words size × Appends [] old new × OnlyPowered entries
+Ends SinkFault words size left rest old new entries =
+    IsStarted words size × IfSome left IsHello × PrintsFront entries old new
+Ends NoMemory words size left rest old new entries =
+    IsStarted words size × (rest ≡ left) × Appends [] old new × (entries ≡ [])
 
 -- the flash counted neither a fault nor a cut
 pub record NothingFailed (old new : DeviceView) : Type 0 where

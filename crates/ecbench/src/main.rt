@@ -11,25 +11,28 @@ mod word;
 
 use bench_io::{FileFlash, StdSink, StdSource};
 use run::{Exit, run};
+use std::alloc::Global;
+use std::env::{self, Args};
 use std::fs::File;
+use std::io;
 use std::process::ExitCode;
-use std::rt::Runtime;
-use std::{env, io};
+use word::Word;
 
 /// The exit status where the flash file cannot be opened.
 const NOT_OPENED: u8 = 1;
 
-/// The exit status where the words are not the command's.
-const BAD_WORDS: u8 = 2;
-
 fn main(rt: HostRuntime) -> ExitCode {
-    let Some(path) = flash_path(&rt) else {
-        let _ = eprintln!(rt;
-            "ecbench: the first word names no flash file\nusage: ecbench FLASH < SCRIPT"
-        );
-        return ExitCode::from(BAD_WORDS);
+    let words = match env::args(&rt).and_then(|args| read_words(rt.alloc(), args)) {
+        Ok(words) => words,
+        Err(error) if error.kind() == io::ErrorKind::InvalidData => {
+            return told(&rt, Exit::BadWords);
+        }
+        Err(_) => return told(&rt, Exit::NoMemory),
     };
-    let flash = match open_flash(&rt, path.as_str()) {
+    let Some(path) = words.first().and_then(Word::flash_path) else {
+        return told(&rt, Exit::BadWords);
+    };
+    let flash = match open_flash(&rt, path) {
         Ok(flash) => flash,
         Err(error) => {
             let _ = eprintln!(rt; "ecbench: {path}: {error}");
@@ -38,19 +41,17 @@ fn main(rt: HostRuntime) -> ExitCode {
     };
     let mut source = StdSource::new(rt.reader());
     let mut sink = StdSink::new(io::writer(&rt));
-    let ended = run(rt.alloc(), &[], flash, &mut source, &mut sink);
-    if ended.exit != Exit::Done {
-        let _ = eprintln!(rt; "ecbench: {}", ended.exit);
-    }
-    ExitCode::from(ended.exit.status())
+    let ended = run(rt.alloc(), words.as_slice(), flash, &mut source, &mut sink);
+    told(&rt, ended.exit)
 }
 
-// The word that names the flash file: the first one, unless it is empty or an option.
-fn flash_path<R: Runtime>(rt: &R) -> Option<String<R::A>> {
-    let mut words = env::args(rt).ok()?;
-    words
-        .nth(1)
-        .filter(|word| !word.is_empty() && !word.as_str().starts_with('-'))
+// The words behind the program's name.
+fn read_words(alloc: Global, args: Args) -> io::Result<Vec<Word>> {
+    let mut words = Vec::new(alloc);
+    for arg in args.skip(1) {
+        words.push(Word::new(alloc, arg.as_bytes())?)?;
+    }
+    Ok(words)
 }
 
 // The flash over a file that is there, to be read and written.
@@ -58,4 +59,12 @@ fn open_flash(rt: &HostRuntime, path: &str) -> io::Result<FileFlash<File>> {
     let mut options = File::options();
     options.read(true).write(true);
     FileFlash::new(options.open(rt, path)?)
+}
+
+// The status of an exit, which is told on standard error where it is not 0.
+fn told(rt: &HostRuntime, exit: Exit) -> ExitCode {
+    if exit != Exit::Done {
+        let _ = eprintln!(rt; "ecbench: {exit}");
+    }
+    ExitCode::from(exit.status())
 }

@@ -1,5 +1,5 @@
 // The top call: a script is carried out on a controller, and what happened is told.
-ghost use Rattle.std.specs.Prelude.{◌≡◌, ◌≢◌, ◌≤◌, false, IfSome, count_by};
+ghost use Rattle.std.specs.Prelude.{◌≡◌, ◌≢◌, ◌≤◌, false, [], IfSome, count_by};
 ghost use Rattle.flash_dev.specs.Counts.{Rose};
 ghost use Rattle.ec_types.specs.declared.bus.BusKind.TheVariants.{Lpc as LpcKind};
 ghost use Rattle.ec_model.specs.Upset.{is_cut_entry};
@@ -11,7 +11,7 @@ ghost use Rattle.ecbench.specs.Serving.{PowersOn, CarriesLine, CarriesOut, Serve
 use crate::hello::hello;
 use crate::script::{fill, is_hello};
 use crate::text::{AnswerText, answer_line};
-use crate::word::Word;
+use crate::word::{Word, are_words};
 use bench_io::{Sink, Source, put_all};
 use bench_wire::Bench;
 use bus_lpc::Lpc;
@@ -32,6 +32,9 @@ pub enum Exit {
     /// The script was read to its end, and every line was carried out.
     #[error("done")]
     Done,
+    /// The words are not the command's.
+    #[error("the words are not the command's\nusage: ecbench FLASH < SCRIPT")]
+    BadWords,
     /// The flash has none of the sizes that a controller's flash may have.
     #[error("the flash has none of the sizes 65536, 131072, 262144, 524288 and 1048576 bytes")]
     BadFlash,
@@ -54,6 +57,7 @@ impl Exit {
     pub fn status(&self) -> u8 {
         match self {
             Exit::Done => 0,
+            Exit::BadWords => 2,
             Exit::BadFlash => 3,
             Exit::BadLine { .. } => 4,
             Exit::SourceFault => 5,
@@ -72,7 +76,7 @@ pub struct Ended<F> {
 }
 
 /// Carries out the script of the source on a controller with this flash, which is off at first and has its pin
-/// asserted: the words are not looked at yet, and the script is the one line `hello`.
+/// asserted. The words are one, which names the flash file, and the script is the one line `hello`.
 pub fn run<F: FlashDev, S: Source, K: Sink>(
     alloc: Global,
     words: &[Word],
@@ -81,7 +85,7 @@ pub fn run<F: FlashDev, S: Source, K: Sink>(
     sink: &mut K,
 ) -> Ended<F>
     // What each exit says of the script, the printed bytes and the journal.
-    ensures ends { Ends result.exit (F.seen flash).extent (S.left source.old) (S.left source.new) (K.written sink.old) (K.written sink.new) result.journal.entries }
+    ensures ends { Ends result.exit words.now (F.seen flash).extent (S.left source.old) (S.left source.new) (K.written sink.old) (K.written sink.new) result.journal.entries }
     // The journal is a run of the controller, from the flash as it came to the flash as it is handed back.
     ensures run { RunsTo result.journal.entries (F.seen flash).held (F.seen result.flash).held }
     // At most as many entries failed as the flash counted faults, and at most as many were cut as it counted cuts.
@@ -90,18 +94,18 @@ pub fn run<F: FlashDev, S: Source, K: Sink>(
     // Where nothing failed in the flash, and it tells its bytes, the line is answered, and its journal is just this.
     ensures greets { result.exit ≡ Exit.Done → NothingFailed (F.seen flash) (F.seen result.flash) →
         IfSome (F.seen flash).held (λ bytes. GreetsWell result.journal.entries (K.written sink.old) (K.written sink.new)) }
-    // A refused flash is handed back as it came.
-    ensures untouched { result.exit ≡ Exit.BadFlash → F.seen result.flash ≡ F.seen flash }
+    // A flash is handed back as it came where the run did not begin.
+    ensures bad_words { result.exit ≡ Exit.BadWords → result.flash ≡ flash }
+    ensures bad_flash { result.exit ≡ Exit.BadFlash → result.flash ≡ flash }
     // No fault is made up.
     ensures source_fault { result.exit ≡ Exit.SourceFault → Rose (S.faults source.old) (S.faults source.new) }
     ensures sink_fault { result.exit ≡ Exit.SinkFault → Rose (K.faults sink.old) (K.faults sink.new) }
 {
+    if !are_words(words) {
+        return refused(alloc, Exit::BadWords, flash);
+    }
     let Some(geometry) = Geometry::new(flash.size()) else {
-        return Ended {
-            exit: Exit::BadFlash,
-            flash,
-            journal: Journal::new(alloc),
-        };
+        return refused(alloc, Exit::BadFlash, flash);
     };
     let mut bench: Bench<Lpc, F> = Bench::new(alloc, Ec::new(flash, geometry, true));
     let exit = drive(&mut bench, source, sink);
@@ -110,6 +114,19 @@ pub fn run<F: FlashDev, S: Source, K: Sink>(
         exit,
         flash,
         journal,
+    }
+}
+
+// A run that ended before it began.
+fn refused<F>(alloc: Global, exit: Exit, flash: F) -> Ended<F>
+    ensures exit { result.exit ≡ exit }
+    ensures flash { result.flash ≡ flash }
+    ensures journal { result.journal.entries ≡ [] }
+{
+    Ended {
+        exit,
+        flash,
+        journal: Journal::new(alloc),
     }
 }
 

@@ -49,10 +49,25 @@ fn a_flash_of_another_size_is_refused(rt: HostRuntime) -> Result<(), Fail> {
     let flash = MemFlash::new(rt.alloc(), &[0xFF; 65535], &[])?;
     let mut source = MemSource::new(rt.alloc(), b"hello", &[])?;
     let mut sink = MemSink::new(rt.alloc(), 100, &[])?;
-    let ended = run(rt.alloc(), &[], flash, &mut source, &mut sink);
+    let word = Word::new(rt.alloc(), b"flash")?;
+    let ended = run(rt.alloc(), &[word], flash, &mut source, &mut sink);
     assert_eq!(rt; ended.exit, Exit::BadFlash);
     assert_eq!(rt; ended.journal.len(), 0);
     assert_eq!(rt; source.taken(), 0);
+    Ok(())
+}
+
+#[test]
+fn other_words_are_refused(rt: HostRuntime) -> Result<(), Fail> {
+    for words in [b"".as_slice(), b"-f".as_slice(), b"--".as_slice()] {
+        let flash = MemFlash::new(rt.alloc(), &[0xFF; 65536], &[])?;
+        let mut source = MemSource::new(rt.alloc(), b"hello", &[])?;
+        let mut sink = MemSink::new(rt.alloc(), 100, &[])?;
+        let word = Word::new(rt.alloc(), words)?;
+        let ended = run(rt.alloc(), &[word], flash, &mut source, &mut sink);
+        assert_eq!(rt; ended.exit, Exit::BadWords);
+        assert_eq!(rt; ended.journal.len(), 0);
+    }
     Ok(())
 }
 
@@ -61,7 +76,8 @@ fn the_packets_are_on_the_bus(rt: HostRuntime) -> Result<(), Fail> {
     let flash = MemFlash::new(rt.alloc(), &[0xFF; 65536], &[])?;
     let mut source = MemSource::new(rt.alloc(), b"hello\n", &[])?;
     let mut sink = MemSink::new(rt.alloc(), 100, &[])?;
-    let ended = run(rt.alloc(), &[], flash, &mut source, &mut sink);
+    let word = Word::new(rt.alloc(), b"flash")?;
+    let ended = run(rt.alloc(), &[word], flash, &mut source, &mut sink);
     let mut request = Vec::new(rt.alloc());
     let mut response = Vec::new(rt.alloc());
     for i in 0..ended.journal.len() {

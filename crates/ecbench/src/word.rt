@@ -1,8 +1,10 @@
 // A word of the command line.
-ghost use Rattle.std.specs.Prelude.{◌≡◌, IfOk};
+ghost use Rattle.std.specs.Prelude.{◌≡◌, IfOk, IsSome, IsTrue};
+ghost use Rattle.ecbench.specs.Words.{names_flash, are_words};
 
 use std::alloc::{AllocError, Global};
 use std::marker::Model;
+use std::str;
 
 /// A word of the command line, seen as its bytes.
 #[derive(Drop)]
@@ -26,5 +28,36 @@ impl Word {
         Ok(Word {
             bytes: bytes.to_vec(alloc)?,
         })
+    }
+
+    /// Whether it names a flash file: it is not empty, and no option, which begins with a hyphen.
+    pub fn names_flash(&self) -> bool
+        ensures { result ≡ names_flash self.now }
+    {
+        match self.bytes.as_slice() {
+            [] => false,
+            [first, ..] => *first != b'-',
+        }
+    }
+
+    /// The path of the flash file that it names, if it names one in UTF-8.
+    pub fn flash_path(&self) -> Option<&str>
+        ensures { IsSome result → IsTrue (names_flash self.now) }
+    {
+        if self.names_flash() {
+            str::from_utf8(&self.bytes).ok()
+        } else {
+            None
+        }
+    }
+}
+
+/// Whether the words are the command's: one, which names the flash file.
+pub fn are_words(words: &[Word]) -> bool
+    ensures { result ≡ are_words words.now }
+{
+    match words {
+        [word] => word.names_flash(),
+        _ => false,
     }
 }
