@@ -1,5 +1,5 @@
 -- What one entry makes of a bench.
-use Rattle.std.specs.Prelude.{◌≡◌, ℕ, ◌+◌, Bool, true, false, IsFalse, List, [], ◌∷◌, ◌++◌, count_by}
+use Rattle.std.specs.Prelude.{◌≡◌, ℕ, ◌+◌, Bool, true, false, IsTrue, IsFalse, List, [], ◌∷◌, ◌++◌, count_by}
 use Rattle.ec_model.specs.declared.event.Event.{Event}
 use Rattle.ec_model.specs.declared.event.Event.TheVariants as event
 use Rattle.ec_model.specs.declared.event.WorldEvent.{WorldEvent}
@@ -7,6 +7,7 @@ use Rattle.ec_model.specs.declared.event.WorldEvent.TheVariants.{Reset, Power, P
 use Rattle.ec_model.specs.declared.event.Entry.{Entry}
 use Rattle.ec_model.specs.declared.event.Entry.TheVariants.{Step}
 use Rattle.ec_model.specs.declared.event.Hurt.{Hurt}
+use Rattle.ec_model.specs.declared.event.Hurt.TheVariants.{Cut}
 use Rattle.ec_model.specs.HostCalls.{on_after}
 use Rattle.ec_model.specs.Upset.{is_cut_entry}
 use Rattle.ec_wire.specs.Calls.{WireView, RunsAlong, RoseBy, is_failed_entry}
@@ -39,9 +40,10 @@ IsEvent (Power on) happened = happened ≡ event.Power on
 IsEvent (Pin on) happened = happened ≡ event.Pin on
 IsEvent (Byte byte) happened = ⊥
 
--- an event of the world happened: it has an entry of its own, whose bytes are 0
+-- an event of the world happened: it has an entry of its own, whose bytes are 0; only a controller that is on loses power
 pub record Happens (happened : WorldEvent) (old new : WireView) : Type 0 where
   pub event : Event
   pub is_event : IsEvent happened event
   pub hurt : Hurt
+  pub alive : hurt ≡ Cut → IsTrue old.on
   pub adds : Adds (Step event 0 0 0 hurt) old new

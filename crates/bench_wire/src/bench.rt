@@ -35,7 +35,8 @@ impl<B: Bus + Drop, F: FlashDev> Model for Bench<B, F> {
 }
 
 impl<B: Bus + Drop, F: FlashDev> Bench<B, F> {
-    ghost use Rattle.std.specs.Prelude.{◌≤◌, IfSome};
+    ghost use Rattle.std.specs.Prelude.{◌≤◌, IfSome, IsTrue};
+    ghost use Rattle.ec_model.specs.declared.event.Hurt.TheVariants.{Cut};
     ghost use Rattle.ec_wire.specs.Calls.{Agrees};
     ghost use Rattle.ec_core.specs.Held.{IsSilent};
     ghost use Rattle.bench_wire.specs.BenchView.{wire_view};
@@ -59,6 +60,7 @@ impl<B: Bus + Drop, F: FlashDev> Bench<B, F> {
         requires { 1 ≤ self.old.spare }
         ensures adds { Adds (StepEntry event result (event_byte event) result self.new.controller.hurt) (wire_view B.bus self.old) (wire_view B.bus self.new) }
         ensures silent { IsSilent event result }
+        ensures alive { self.new.controller.hurt ≡ Cut → IsTrue self.old.controller.on }
         ensures agrees { IfSome self.new.controller.table (Agrees B.bus self.new.controller.on) }
     {
         let answer = self.ec.step(event);

@@ -90,6 +90,7 @@ step-up kind event hurt answer old_bus bus new_bus task run new taken told on pi
       pin = pin ∙ sym (taken.like.pin_is run.pin);
       off = λ up. cc;
       lost = λ cut. ap (λ (h : Hurt). answer_by h answer (lost_answer event)) cut;
+      alive = λ cut. refl;
       silent = silent-by hurt event answer taken.like.silent;
       calm = calm;
       spent = spent;
@@ -109,6 +110,7 @@ step-down {F} kind event hurt answer old_bus new_bus task off pin new alive take
       pin = pin_is ∙ sym (taken.like.pin_is pin);
       off = λ up. taken.answer_is;
       lost = λ cut. absurd (alive cut);
+      alive = λ cut. absurd (alive cut);
       silent = taken.like.silent;
       calm = calm;
       spent = spent;

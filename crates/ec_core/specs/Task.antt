@@ -1,5 +1,5 @@
 -- What an event has the controller do, and what is left once that is done.
-use Rattle.std.specs.Prelude.{◌≡◌, ℕ, Bool, true, false, IsNone, IsSome, IsFalse, List, Option, Some, None, ⊤}
+use Rattle.std.specs.Prelude.{◌≡◌, ℕ, Bool, true, false, IsNone, IsSome, IsTrue, IsFalse, List, Option, Some, None, ⊤}
 use Rattle.ec_types.specs.declared.bus.BusKind.{BusKind}
 use Rattle.ec_model.specs.declared.event.Event.{Event}
 use Rattle.ec_model.specs.declared.event.Hurt.{Hurt}
@@ -87,6 +87,7 @@ pub record IsStepped {F : Type 0} (kind : BusKind) (event : Event) (hurt : Hurt)
   pub pin : kept_pin new ≡ pin_after event (kept_pin old)
   pub off : IsFalse (is_kept_up old) → answer ≡ lost_answer event
   pub lost : hurt ≡ Cut → answer ≡ lost_answer event
+  pub alive : hurt ≡ Cut → IsTrue (is_kept_up old)
   pub silent : IsSilent event answer
   pub calm : IsKept bus new
   pub spent : IsSpent hurt (kept_device old) (kept_device new)

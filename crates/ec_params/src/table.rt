@@ -8,7 +8,7 @@ pub fn known(command: u16) -> Option<u32>
     ensures { result ≡ known command }
 {
     match command {
-        0x0001 | 0x0009 | 0x0011 => Some(1),
+        0x0001 | 0x0011 => Some(1),
         0x0012 => Some(3),
         _ => None,
     }

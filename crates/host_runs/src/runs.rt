@@ -1,13 +1,14 @@
 // What holds on every bus.
-ghost use Rattle.std.specs.Prelude.{List, ℕ};
+ghost use Rattle.std.specs.Prelude.{◌<◌, ◌^◌, List, ℕ, length, Ok, IsFalse};
 ghost use Rattle.ec_model.specs.declared.event.Entry.{Entry};
+ghost use Rattle.ec_model.specs.Packet.{request_packet};
 ghost use Rattle.ec_model.specs.Table.{Table, Core};
 ghost use Rattle.ec_model.specs.Handle.{handled};
 ghost use Rattle.ec_model.specs.Run.{IsRun};
 ghost use Rattle.ec_model.specs.Upset.{IsUndisturbed};
 ghost use Rattle.ec_model.specs.HostCalls.{calls_of};
 ghost use Rattle.host_runs.specs.Calm.{CallsLead};
-ghost use Rattle.host_runs.specs.Served.{IsPlain, IsAnswer};
+ghost use Rattle.host_runs.specs.Served.{is_cold, IsPlain, IsAnswer};
 
 /// Where nothing disturbs a run, it is determined by the host's calls.
 pub fn calm_runs()
@@ -15,7 +16,10 @@ pub fn calm_runs()
         CallsLead old (calls_of entries) new }
 {}
 
-/// A request that is no COLD is answered.
+/// The spelling of a request that is no COLD is a plain packet, and a plain packet is answered.
 pub fn plain_requests()
-    ensures { (packet : List ℕ) (core : Core) (limit : ℕ) → IsPlain packet → IsAnswer (handled core limit packet) }
+    ensures spelled { (command version : ℕ) (body : List ℕ) → command < 2 ^ 16 → length body < 2 ^ 16 →
+        IsFalse (is_cold (Ok (record { command = command; version = version; body = body }))) →
+        IsPlain (request_packet command version body) }
+    ensures answered { (packet : List ℕ) (core : Core) (limit : ℕ) → IsPlain packet → IsAnswer (handled core limit packet) }
 {}

@@ -1,0 +1,5 @@
+pub mod Filling
+pub mod Served
+pub mod Journeys
+pub mod Greeting
+pub mod Whole

@@ -1,0 +1,102 @@
+-- A whole run, from the flash as it came to the flash and the journal that are handed back.
+use Rattle.std.proofs.Common.{◌≡◌, refl, sym, ap, ◌∙◌, subst, ℕ, true, List, [], ◌++◌, length, Option, Some, None}
+use Rattle.std.specs.Prelude.{option_map, IfSome, count_by}
+use Rattle.flash_dev.specs.Counts.{Rose}
+use Rattle.flash_dev.specs.Device.{DeviceView}
+use Rattle.flash_dev.specs.Ranges.{is_flash_size}
+use Rattle.ec_types.specs.declared.bus.BusKind.TheVariants.{Lpc}
+use Rattle.ec_model.specs.declared.event.Entry.{Entry}
+use Rattle.ec_model.specs.Table.{Table, off_table}
+use Rattle.ec_model.specs.Upset.{is_cut_entry}
+use Rattle.ec_wire.specs.Calls.{WireView, RunsAlong, RoseBy, is_failed_entry}
+use Rattle.ec_wire.specs.Journals.{JournalView}
+use Rattle.ec_core.specs.View.{EcView}
+use Rattle.bench_wire.specs.BenchView.{BenchView, wire_view}
+use Rattle.ecbench.specs.declared.run.Exit.{Exit}
+use Rattle.ecbench.specs.declared.run.Exit.TheVariants.{Done}
+use Rattle.ecbench.specs.Endings.{Ends, RunsTo, NothingFailed, GreetsWell}
+use Rattle.ecbench.specs.Serving.{Drives}
+use Rattle.ecbench.proofs.Served.{drives-ends}
+use Rattle.ecbench.proofs.Journeys.{Grew, drives-grew, runs-to}
+use Rattle.ecbench.proofs.Greeting.{greets-well}
+
+-- a bench that is off, with the flash as it came
+pub record Opens (came : DeviceView) (bench : BenchView) : Type 0 where
+  pub empty : bench.entries ≡ []
+  pub table : bench.controller.table ≡ option_map (λ bytes. off_table bytes true Lpc) came.held
+  pub device : bench.controller.device ≡ came
+
+pub opens : (came : DeviceView) (bench : BenchView) (controller : EcView) → bench ≡ record { entries = []; spare = 0; controller = controller } → controller.table ≡ option_map (λ bytes. off_table bytes true Lpc) came.held → controller.device ≡ came → Opens came bench
+opens came bench controller same told device_is =
+    record {
+      empty = ap (λ (b : BenchView). b.entries) same;
+      table = ap (λ (b : BenchView). b.controller.table) same ∙ told;
+      device = ap (λ (b : BenchView). b.controller.device) same ∙ device_is;
+    }
+
+-- what is handed back of a bench
+pub record HandsBack (bench : BenchView) (left : DeviceView) (kept : JournalView) : Type 0 where
+  pub flash : left ≡ bench.controller.device
+  pub journal : kept ≡ record { entries = bench.entries; spare = bench.spare }
+  pub table : option_map (λ table. table.flash) bench.controller.table ≡ bench.controller.device.held
+
+-- the journal is the bench's
+entries-of : (bench : BenchView) (left : DeviceView) (journal : JournalView) → HandsBack bench left journal → journal.entries ≡ bench.entries
+entries-of bench left journal hands = ap (λ (j : JournalView). j.entries) hands.journal
+
+-- what the exit says
+pub run-ends : (exit : Exit) (came left : DeviceView) (bench after : BenchView) (journal : JournalView) (script rest before printed : Option (List ℕ)) → is_flash_size came.extent ≡ true → Opens came bench → HandsBack after left journal →
+    Drives exit (wire_view Lpc bench) (wire_view Lpc after) script rest before printed → Ends exit came.extent script rest before printed journal.entries
+run-ends exit came left bench after journal script rest before printed allowed opened hands drives =
+    subst (λ (entries : List Entry). Ends exit came.extent script rest before printed entries) (sym (entries-of after left journal hands))
+    (drives-ends exit came.extent (wire_view Lpc bench) (wire_view Lpc after) script rest before printed allowed opened.empty refl drives)
+
+-- all of the journal was added
+grew-all : (exit : Exit) (came left : DeviceView) (bench after : BenchView) (journal : JournalView) (script rest before printed : Option (List ℕ)) → Opens came bench → HandsBack after left journal →
+    Drives exit (wire_view Lpc bench) (wire_view Lpc after) script rest before printed → (grew : Grew (wire_view Lpc bench) (wire_view Lpc after)) × (grew.added ≡ journal.entries)
+grew-all exit came left bench after journal script rest before printed opened hands drives =
+    let grew = drives-grew exit (wire_view Lpc bench) (wire_view Lpc after) script rest before printed drives in
+    (grew, sym (entries-of after left journal hands ∙ grew.extends.entries ∙ ap (λ (entries : List Entry). entries ++ grew.added) opened.empty))
+
+-- the journal is a run
+pub run-runs : (exit : Exit) (came left : DeviceView) (bench after : BenchView) (journal : JournalView) (script rest before printed : Option (List ℕ)) → Opens came bench → HandsBack after left journal →
+    Drives exit (wire_view Lpc bench) (wire_view Lpc after) script rest before printed → RunsTo journal.entries came.held left.held
+run-runs exit came left bench after journal script rest before printed opened hands drives =
+    let (grew, all) = grew-all exit came left bench after journal script rest before printed opened hands drives in
+    runs-to journal.entries came.held left.held after.controller.table
+    (subst (λ (table : Option Table). RunsAlong journal.entries table after.controller.table) opened.table
+    (subst (λ (entries : List Entry). RunsAlong entries bench.controller.table after.controller.table) all grew.extends.run))
+    (hands.table ∙ ap (λ (device : DeviceView). device.held) (sym hands.flash))
+
+-- each failed entry raised the flash's count of faults
+pub run-faults : (exit : Exit) (came left : DeviceView) (bench after : BenchView) (journal : JournalView) (script rest before printed : Option (List ℕ)) → Opens came bench → HandsBack after left journal →
+    Drives exit (wire_view Lpc bench) (wire_view Lpc after) script rest before printed → RoseBy (count_by is_failed_entry journal.entries) came.faults left.faults
+run-faults exit came left bench after journal script rest before printed opened hands drives =
+    let (grew, all) = grew-all exit came left bench after journal script rest before printed opened hands drives in
+    subst (λ (entries : List Entry). RoseBy (count_by is_failed_entry entries) came.faults left.faults) all
+    (subst (λ (device : DeviceView). RoseBy (count_by is_failed_entry grew.added) device.faults left.faults) opened.device
+    (subst (λ (device : DeviceView). RoseBy (count_by is_failed_entry grew.added) bench.controller.device.faults device.faults) (sym hands.flash) grew.extends.faults))
+
+-- each cut entry raised the flash's count of cuts
+pub run-cuts : (exit : Exit) (came left : DeviceView) (bench after : BenchView) (journal : JournalView) (script rest before printed : Option (List ℕ)) → Opens came bench → HandsBack after left journal →
+    Drives exit (wire_view Lpc bench) (wire_view Lpc after) script rest before printed → RoseBy (count_by is_cut_entry journal.entries) came.cuts left.cuts
+run-cuts exit came left bench after journal script rest before printed opened hands drives =
+    let (grew, all) = grew-all exit came left bench after journal script rest before printed opened hands drives in
+    subst (λ (entries : List Entry). RoseBy (count_by is_cut_entry entries) came.cuts left.cuts) all
+    (subst (λ (device : DeviceView). RoseBy (count_by is_cut_entry grew.added) device.cuts left.cuts) opened.device
+    (subst (λ (device : DeviceView). RoseBy (count_by is_cut_entry grew.added) bench.controller.device.cuts device.cuts) (sym hands.flash) grew.extends.cuts))
+
+-- bytes that are told are as many as an allowed size
+told-allowed : (held : Option (List ℕ)) (extent : ℕ) → ((bytes : List ℕ) → held ≡ Some bytes → length bytes ≡ extent) → is_flash_size extent ≡ true → IfSome held (λ bytes. is_flash_size (length bytes) ≡ true)
+told-allowed None extent whole allowed = tt
+told-allowed (Some bytes) extent whole allowed = ap is_flash_size (whole bytes refl) ∙ allowed
+
+-- the line where nothing failed
+pub run-greets : (exit : Exit) (came left : DeviceView) (bench after : BenchView) (journal : JournalView) (script rest before printed : Option (List ℕ)) → is_flash_size came.extent ≡ true → ((bytes : List ℕ) → came.held ≡ Some bytes → length bytes ≡ came.extent) →
+    Opens came bench → HandsBack after left journal → Drives exit (wire_view Lpc bench) (wire_view Lpc after) script rest before printed → exit ≡ Done → NothingFailed came left → IfSome came.held (λ bytes. GreetsWell journal.entries before printed)
+run-greets exit came left bench after journal script rest before printed allowed whole opened hands drives done nothing =
+    subst (λ (entries : List Entry). IfSome came.held (λ bytes. GreetsWell entries before printed)) (sym (entries-of after left journal hands))
+    (greets-well came.held (wire_view Lpc bench) (wire_view Lpc after) script rest before printed (told-allowed came.held came.extent whole allowed) opened.empty refl refl opened.table
+    (λ rose. nothing.no_fault (subst (λ (device : DeviceView). Rose device.faults left.faults) opened.device (subst (λ (device : DeviceView). Rose bench.controller.device.faults device.faults) (sym hands.flash) rose)))
+    (λ rose. nothing.no_cut (subst (λ (device : DeviceView). Rose device.cuts left.cuts) opened.device (subst (λ (device : DeviceView). Rose bench.controller.device.cuts device.cuts) (sym hands.flash) rose)))
+    (subst (λ (e : Exit). Drives e (wire_view Lpc bench) (wire_view Lpc after) script rest before printed) done drives))

@@ -1,0 +1,5 @@
+pub mod Reading
+pub mod Texts
+pub mod Hello
+pub mod Endings
+pub mod Serving
