@@ -1,17 +1,17 @@
-//! The controller's LPC machine.
+//! The controller's machine on LPC: what each access of the host does to it, and what it answers.
 #![tactic(auto)]
 
-ghost use Rattle.std.specs.Prelude.{◌≡◌, ◌==◌, ◌≤◌, ◌<◌, ◌+◌, ◌++◌, ℕ, Bool, not, length, take, drop, refl, IsTrue};
+ghost use Rattle.std.specs.Prelude.{◌≡◌, ◌==◌, ◌<◌, refl};
 ghost use Rattle.ec_types.specs.declared.bus.BusKind.TheVariants.{Lpc as LpcKind};
-ghost use Rattle.ec_model.specs.Bus.{OnLpc, LpcState, is_busy, in_window, lpc_out, lpc_in, lpc_after_in, low_status};
-ghost use Rattle.flash_dev.specs.Flash.{overwritten};
+ghost use Rattle.ec_model.specs.Bus.{OnLpc, is_busy, in_window, lpc_out, lpc_in, lpc_after_in};
 
 use ec_model::Access;
 use ec_packet::Packet;
 use ec_types::BusKind;
 use ec_wire::{Bus, Due};
 
-/// A window of bytes, a status byte and a result byte.
+/// A window of 256 bytes at the ports 0x800 to 0x8FF, a status byte at 0x204 and a result byte at 0x200. The command byte
+/// 0xDA to 0x204 makes the whole window a request, which is due at a tick.
 #[derive(Drop)]
 pub struct Lpc {
     window: [u8; 256],
@@ -36,7 +36,7 @@ fn windowed(port: u16) -> bool
 impl Lpc {
     ghost use Rattle.bus_lpc.specs.State.{lpc_state};
 
-    // A write to a port.
+    // A write to a port. All are ignored while the machine is busy.
     fn write_port(&mut self, port: u16, byte: u8)
         ensures { lpc_state self.new ≡ lpc_out (lpc_state self.old) port byte }
     {
@@ -56,7 +56,7 @@ impl Lpc {
         }
     }
 
-    // A read of a port.
+    // A read of a port. One of the result byte takes the status bit 0x01 away.
     fn read_port(&mut self, port: u16) -> u8
         ensures state { lpc_state self.new ≡ lpc_after_in (lpc_state self.old) port }
         ensures answer { result ≡ lpc_in (lpc_state self.old) port }

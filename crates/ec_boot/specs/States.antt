@@ -14,11 +14,11 @@ use Rattle.ec_model.specs.Ranges.{Range, is_flash_size, overlaps, wp_ro_range}
 use Rattle.ec_model.specs.Table.{Core, IsErasable, IsHashable}
 use Rattle.ec_model.specs.Hash.{touched}
 
--- off: only the flash is left
+-- a controller that is off: only its flash is left
 pub record OffView : Type 0 where
   pub device : DeviceView
 
--- on
+-- a controller that is on, without its bus: its device and pin, what lasts until the next reset, and a busy hash's nonce
 pub record RunView : Type 0 where
   pub device : DeviceView
   pub pin : Bool
@@ -44,7 +44,7 @@ locks_of size ro all =
 abbrev pub is_lock_blocked : ℕ → Live → Range → Bool
 is_lock_blocked size live range = (live.ro_now && overlaps range (wp_ro_range size)) || live.all_now
 
--- what holds of each state that is on
+-- what holds of each controller that runs RO: no command starts a hash or an erase
 pub record IsRunning (ctl : CtlView) (live : Live) : Type 0 where
   pub size : IsTrue (is_flash_size ctl.device.extent)
   pub locks : ctl.locks ≡ locks_of ctl.device.extent live.ro_now live.all_now

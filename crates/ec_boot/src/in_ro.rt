@@ -1,12 +1,10 @@
 // On, with the RO image running.
-ghost use Rattle.std.specs.Prelude.{◌≡◌, ◌≤◌, ◌+◌, ◌%◌, None, option_map, length, IfSome, IsTrue, IsFalse};
-ghost use Rattle.flash_dev.specs.Flash.{programmed};
-ghost use Rattle.flash_dev.specs.Device.{DeviceView, IsRead};
+ghost use Rattle.std.specs.Prelude.{◌≡◌, None, option_map, length, IfSome, IsTrue, IsFalse};
 ghost use Rattle.ec_model.specs.declared.live.HashView.TheVariants.{Idle};
 ghost use Rattle.ec_model.specs.Ranges.{is_flash_size};
 ghost use Rattle.ec_model.specs.Boot.{booted};
 ghost use Rattle.ec_model.specs.Stored.{stored_bytes};
-ghost use Rattle.ec_boot.specs.States.{told_core, IsLookedAt, IsLiveValid, IsOperated, locks_of};
+ghost use Rattle.ec_boot.specs.States.{told_core, IsLookedAt, IsLiveValid, locks_of};
 
 use crate::stored::{says_all, says_ro};
 use crate::{Off, Running};

@@ -33,6 +33,7 @@ impl<F: FlashDev> Off<F> {
         requires { geometry ≡ (F.seen flash).extent }
         ensures { result.device ≡ F.seen flash }
     {
+        // A geometry is one of the sizes that a flash may have.
         let _size = geometry.size();
         Off { flash, geometry }
     }

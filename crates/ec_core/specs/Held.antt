@@ -53,23 +53,27 @@ abbrev pub IsCalm : {F : Type 0} → BusState → Held F → Type 0
 IsCalm bus (Down off pin) = ⊤
 IsCalm bus (Up run) = IsNone (due_now bus)
 
--- the same of a controller, which always holds something
+-- the table of a controller, which always holds something
 abbrev pub kept_table : {F : Type 0} → BusKind → BusState → Option (Held F) → Option Table
 kept_table kind bus None = None
 kept_table kind bus (Some held) = held_table kind bus held
 
+-- whether a controller is on
 abbrev pub is_kept_up : {F : Type 0} → Option (Held F) → Bool
 is_kept_up None = false
 is_kept_up (Some held) = is_up held
 
+-- the pin of a controller
 abbrev pub kept_pin : {F : Type 0} → Option (Held F) → Bool
 kept_pin None = false
 kept_pin (Some held) = held_pin held
 
+-- the device of a controller
 abbrev pub kept_device : {F : Type 0} → Option (Held F) → DeviceView
 kept_device None = record { held = None; extent = 0; faults = 0; cuts = 0; wear = 0; fetched = 0 }
 kept_device (Some held) = held_device held
 
+-- a controller holds something, and no request is due now where it is on
 abbrev pub IsKept : {F : Type 0} → BusState → Option (Held F) → Type 0
 IsKept bus None = ⊥
 IsKept bus (Some held) = IsCalm bus held
