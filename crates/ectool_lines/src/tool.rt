@@ -1,0 +1,23 @@
+// What a line asks of the controller.
+use ec_types::LineBytes;
+
+/// A line that sends commands to the controller, with its numbers and bytes.
+#[derive(Drop)]
+pub enum Tool {
+    /// `hello`
+    Hello,
+    /// `flashread O N`
+    FlashRead {
+        /// The first byte to read, from the flash's first byte.
+        at: u32,
+        /// How many bytes are wanted, at most 4,096.
+        size: u32,
+    },
+    /// `flashwrite O HEX`
+    FlashWrite {
+        /// Where the first byte goes, from the flash's first byte.
+        at: u32,
+        /// At least one byte, and at most 4,096.
+        bytes: LineBytes,
+    },
+}

@@ -1,0 +1,42 @@
+-- What stands behind the first word of a line: how many words, and what each of them is. The first fault counts, from the left.
+use Rattle.std.specs.Prelude.{ℕ, List, [], ◌∷◌, Some, None, Result, Ok, Err, nat_le, if◌then◌else◌}
+use Rattle.ec_types.specs.declared.why.Why.{Why}
+use Rattle.ec_types.specs.declared.why.Why.TheVariants.{Count, Number, Hex}
+use Rattle.script_words.specs.Numbers.{number_of}
+use Rattle.script_words.specs.Hexes.{hex_of}
+
+-- the second step, where the first one met no fault
+infixl 10 ◌>>=◌
+abbrev pub ◌>>=◌ : {A B : Type 0} → Result A Why → (A → Result B Why) → Result B Why
+Ok value >>= next = next value
+Err why >>= next = Err why
+
+-- a word that is a number, at most so large
+abbrev pub number_to : ℕ → List ℕ → Result ℕ Why
+number_to most word = elim (number_of word) [
+  | None ↦ Err Number
+  | Some number ↦ if nat_le number most then Ok number else Err Number
+]
+
+-- a word that spells bytes, at most so many
+abbrev pub hex_to : ℕ → List ℕ → Result (List ℕ) Why
+hex_to limit word = elim (hex_of limit word) [ None ↦ Err Hex | Some bytes ↦ Ok bytes ]
+
+-- no word
+abbrev pub no_words : List (List ℕ) → Result (Unit {0}) Why
+no_words [] = Ok tt
+no_words _ = Err Count
+
+-- two words
+abbrev pub two_words : List (List ℕ) → Result (List ℕ × List ℕ) Why
+two_words (a ∷ b ∷ []) = Ok (a, b)
+two_words _ = Err Count
+
+-- a first word that stands alone
+abbrev pub alone : {T : Type 0} → T → List (List ℕ) → Result T Why
+alone value words = no_words words >>= λ _. Ok value
+
+-- a first word with two behind it
+abbrev pub with_two : {A B T : Type 0} → (List ℕ → Result A Why) → (List ℕ → Result B Why) → (A → B → T) → List (List ℕ) → Result T Why
+with_two read_first read_second value words =
+    two_words words >>= λ pair. read_first pair.0 >>= λ a. read_second pair.1 >>= λ b. Ok (value a b)

@@ -1,0 +1,36 @@
+// Bytes as hexadecimal words.
+ghost use Rattle.std.specs.Prelude.{◌≡◌, ◌≤◌, None, Some};
+ghost use Rattle.script_words.specs.Forms.{hex_to as hex_up_to};
+ghost use Rattle.script_words.specs.Hexes.{hex_of};
+
+use ec_types::{LineBytes, Why};
+
+/// The bytes that a word spells, two hexadecimal digits of either case each; None exactly where it spells none, or more
+/// than `limit`.
+pub fn hex_bytes(word: &[u8], limit: usize) -> Option<LineBytes>
+    requires { limit ≤ 8192 }
+    ensures { result ≡ hex_of limit word.now }
+{
+    let count = word.len() / 2;
+    if count == 0 || count > limit {
+        return None;
+    }
+    let mut buffer = [0; 8192];
+    let part = &mut buffer[..count];
+    match hex::decode_to_slice(word, part) {
+        Ok(()) => {
+            let mut bytes = LineBytes::new();
+            bytes.extend(part);
+            Some(bytes)
+        }
+        Err(_) => None,
+    }
+}
+
+/// The same bytes; `Hex` exactly where the word spells none, or more than `limit`.
+pub fn hex_to(word: &[u8], limit: usize) -> Result<LineBytes, Why>
+    requires { limit ≤ 8192 }
+    ensures { result ≡ hex_up_to limit word.now }
+{
+    hex_bytes(word, limit).ok_or(Why::Hex)
+}

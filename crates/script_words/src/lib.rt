@@ -1,0 +1,15 @@
+//! What the lines of a script are made of: words, numbers and hexadecimal bytes, and what is wrong with them.
+#![tactic(auto)]
+
+mod hexes;
+mod line;
+mod numbers;
+mod words;
+
+pub use hexes::{hex_bytes, hex_to};
+pub use line::{check_line, is_idle};
+pub use numbers::{number, number_to};
+pub use words::{is_word, next_word, no_words, two_words};
+
+#[cfg(test)]
+mod tests;

@@ -1,0 +1,43 @@
+// Numbers: decimal digits, or `0x` and hexadecimal digits of either case.
+ghost use Rattle.std.specs.Prelude.{◌≡◌, ◌≤◌};
+ghost use Rattle.script_words.specs.Numbers.{number_of, number_in};
+ghost use Rattle.script_words.specs.Forms.{number_to as number_up_to};
+
+use ec_types::Why;
+
+/// The number that a word is; None exactly where it is none, or above 4,294,967,295.
+pub fn number(word: &[u8]) -> Option<u32>
+    ensures { result ≡ number_of word.now }
+{
+    match word.strip_prefix(b"0x") {
+        Some(digits) => number_from(digits, 16),
+        None => number_from(word, 10),
+    }
+}
+
+/// A number of at most `most`; `Number` exactly where the word is none, or a larger one.
+pub fn number_to(word: &[u8], most: u32) -> Result<u32, Why>
+    ensures { result ≡ number_up_to most word.now }
+{
+    match number(word) {
+        Some(number) if number <= most => Ok(number),
+        _ => Err(Why::Number),
+    }
+}
+
+// The number that digits of the base write.
+fn number_from(digits: &[u8], base: u32) -> Option<u32>
+    requires least { 2 ≤ base }
+    requires most { base ≤ 36 }
+    ensures { result ≡ number_in base digits.now }
+{
+    if digits.is_empty() {
+        return None;
+    }
+    let mut number = 0u32;
+    for byte in digits {
+        let digit = char::from(*byte).to_digit(base)?;
+        number = number.checked_mul(base)?.checked_add(digit)?;
+    }
+    Some(number)
+}

@@ -1,0 +1,72 @@
+// Words are separated by one or more spaces; spaces before the first and after the last one are ignored.
+ghost use Rattle.std.specs.Prelude.{◌≡◌, ◌<◌, ◌≤◌, ℕ, [], ◌∷◌, MatchOption, MatchResult, length, slice_index};
+ghost use Rattle.std.specs.Str.{bytes_eq};
+ghost use Rattle.script_words.specs.Words.{words_of};
+ghost use Rattle.script_words.specs.Forms.{no_words as no_words_in, two_words as two_words_in};
+
+use ec_types::Why;
+
+/// The first word and what follows it, unless there is none.
+pub fn next_word(line: &[u8]) -> Option<(&[u8], &[u8])>
+    ensures { MatchOption result (words_of line.now ≡ []) (λ x. words_of line.now ≡ x.0.now ∷ words_of x.1.now) }
+{
+    let rest = skip_spaces(line);
+    if rest.is_empty() {
+        return None;
+    }
+    Some(rest.split_at(word_len(rest)))
+}
+
+/// Whether a word is this one.
+pub fn is_word(word: &[u8], name: &[u8]) -> bool
+    ensures { result ≡ bytes_eq word.now name.now }
+{
+    word == name
+}
+
+/// Nothing but spaces; `Count` exactly where there is a word.
+pub fn no_words(line: &[u8]) -> Result<(), Why>
+    ensures { result ≡ no_words_in (words_of line.now) }
+{
+    match next_word(line) {
+        None => Ok(()),
+        Some(_) => Err(Why::Count),
+    }
+}
+
+/// The two words; `Count` exactly where there are not two.
+pub fn two_words(line: &[u8]) -> Result<(&[u8], &[u8]), Why>
+    ensures { MatchResult result (λ pair. two_words_in (words_of line.now) ≡ Ok (pair.0.now, pair.1.now))
+        (λ why. two_words_in (words_of line.now) ≡ Err why) }
+{
+    let (first, rest) = next_word(line).ok_or(Why::Count)?;
+    let (second, rest) = next_word(rest).ok_or(Why::Count)?;
+    no_words(rest)?;
+    Ok((first, second))
+}
+
+// The line from its first word on.
+fn skip_spaces(line: &[u8]) -> &[u8]
+    ensures words { words_of result.now ≡ words_of line.now }
+    ensures front { 0 < length result.now → slice_index result.now 0 ≡ 32 → ⊥ }
+{
+    let mut rest = line;
+    while let [b' ', after @ ..] = rest {
+        rest = after;
+    }
+    rest
+}
+
+// How many bytes stand before the first space.
+fn word_len(line: &[u8]) -> usize
+    ensures within { result ≤ length line.now }
+    ensures before { (k : ℕ) → k < result → slice_index line.now k ≡ 32 → ⊥ }
+    ensures found { result < length line.now → slice_index line.now result ≡ 32 }
+{
+    for (i, byte) in line.iter().enumerate() {
+        if *byte == b' ' {
+            return i;
+        }
+    }
+    line.len()
+}
