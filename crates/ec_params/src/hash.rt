@@ -58,7 +58,8 @@ impl VbootHashAsk {
     pub fn write(&self, out: &mut Packet)
         requires { length out.old + 76 ≤ 544 }
         ensures { out.new ≡ out.old ++
-            vboot_hash_ask self.now.cmd self.now.hash_type self.now.nonce_size self.now.reserved self.now.offset self.now.size self.now.nonce }
+            vboot_hash_ask self.now.cmd self.now.hash_type self.now.nonce_size self.now.reserved
+            self.now.offset self.now.size self.now.nonce }
     {
         out.extend(&[self.cmd, self.hash_type, self.nonce_size, self.reserved]);
         put_u32(out, self.offset);
@@ -121,7 +122,8 @@ impl VbootHashSay {
     pub fn write(&self, out: &mut Packet)
         requires { length out.old + 76 ≤ 544 }
         ensures { out.new ≡ out.old ++
-            vboot_hash_say self.now.status self.now.hash_type self.now.digest_size self.now.reserved self.now.offset self.now.size self.now.digest }
+            vboot_hash_say self.now.status self.now.hash_type self.now.digest_size self.now.reserved
+            self.now.offset self.now.size self.now.digest }
     {
         out.extend(&[self.status, self.hash_type, self.digest_size, self.reserved]);
         put_u32(out, self.offset);
