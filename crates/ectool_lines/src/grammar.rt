@@ -1,7 +1,8 @@
 // Reading a line.
-ghost use Rattle.std.specs.Prelude.{◌≡◌, ◌∷◌};
+ghost use Rattle.std.specs.Prelude.{◌≡◌, ◌∷◌, IfOk};
 ghost use Rattle.script_words.specs.Words.{words_of};
-ghost use Rattle.ectool_lines.specs.Tools.{tool_of, tool_by, flash_read_of, flash_write_of};
+ghost use Rattle.script_words.specs.Forms.{with_two, number_to, hex_to};
+ghost use Rattle.ectool_lines.specs.Tools.{tool_of, tool_by, IsInRange};
 
 use crate::Tool;
 use ec_types::Why;
@@ -10,7 +11,8 @@ use script_words::{check_line, hex_to, is_word, next_word, no_words, number_to, 
 /// What a line without its line feed says, or the first thing that is wrong with it: `TooLong`, `Ascii`, `Word` where no
 /// line begins so, `Count`, and then `Number` or `Hex` of the first word from the left that is none.
 pub fn parse(line: &[u8]) -> Result<Tool, Why>
-    ensures { result ≡ tool_of line.now }
+    ensures tool { result ≡ tool_of line.now }
+    ensures within { IfOk result IsInRange }
 {
     check_line(line)?;
     let (first, rest) = next_word(line).ok_or(Why::Word)?;
@@ -19,7 +21,8 @@ pub fn parse(line: &[u8]) -> Result<Tool, Why>
 
 // The line with this first word, and the others after it.
 fn by_words(first: &[u8], rest: &[u8]) -> Result<Tool, Why>
-    ensures { result ≡ tool_by (first.now ∷ words_of rest.now) }
+    ensures tool { result ≡ tool_by (first.now ∷ words_of rest.now) }
+    ensures within { IfOk result IsInRange }
 {
     if is_word(first, b"hello") {
         no_words(rest)?;
@@ -34,7 +37,8 @@ fn by_words(first: &[u8], rest: &[u8]) -> Result<Tool, Why>
 }
 
 fn flash_read(words: &[u8]) -> Result<Tool, Why>
-    ensures { result ≡ flash_read_of (words_of words.now) }
+    ensures tool { result ≡ with_two (number_to 4294967295) (number_to 4096) Tool.FlashRead (words_of words.now) }
+    ensures within { IfOk result IsInRange }
 {
     let (at, size) = two_words(words)?;
     Ok(Tool::FlashRead {
@@ -44,7 +48,8 @@ fn flash_read(words: &[u8]) -> Result<Tool, Why>
 }
 
 fn flash_write(words: &[u8]) -> Result<Tool, Why>
-    ensures { result ≡ flash_write_of (words_of words.now) }
+    ensures tool { result ≡ with_two (number_to 4294967295) (hex_to 4096) Tool.FlashWrite (words_of words.now) }
+    ensures within { IfOk result IsInRange }
 {
     let (at, bytes) = two_words(words)?;
     Ok(Tool::FlashWrite {

@@ -1,7 +1,7 @@
 // Numbers: decimal digits, or `0x` and hexadecimal digits of either case.
-ghost use Rattle.std.specs.Prelude.{◌≡◌, ◌≤◌};
+ghost use Rattle.std.specs.Prelude.{◌≡◌, ◌≤◌, IfOk};
 ghost use Rattle.script_words.specs.Numbers.{number_of, number_in};
-ghost use Rattle.script_words.specs.Forms.{number_to as number_up_to};
+ghost use Rattle.script_words.specs.Forms.{number_to};
 
 use ec_types::Why;
 
@@ -17,7 +17,8 @@ pub fn number(word: &[u8]) -> Option<u32>
 
 /// A number of at most `most`; `Number` exactly where the word is none, or a larger one.
 pub fn number_to(word: &[u8], most: u32) -> Result<u32, Why>
-    ensures { result ≡ number_up_to most word.now }
+    ensures number { result ≡ number_to most word.now }
+    ensures within { IfOk result (λ number. number ≤ most) }
 {
     match number(word) {
         Some(number) if number <= most => Ok(number),

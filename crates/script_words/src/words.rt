@@ -2,7 +2,7 @@
 ghost use Rattle.std.specs.Prelude.{◌≡◌, ◌<◌, ◌≤◌, ℕ, [], ◌∷◌, MatchOption, MatchResult, length, slice_index};
 ghost use Rattle.std.specs.Str.{bytes_eq};
 ghost use Rattle.script_words.specs.Words.{words_of};
-ghost use Rattle.script_words.specs.Forms.{no_words as no_words_in, two_words as two_words_in};
+ghost use Rattle.script_words.specs.Forms.{no_words, two_words};
 
 use ec_types::Why;
 
@@ -26,7 +26,7 @@ pub fn is_word(word: &[u8], name: &[u8]) -> bool
 
 /// Nothing but spaces; `Count` exactly where there is a word.
 pub fn no_words(line: &[u8]) -> Result<(), Why>
-    ensures { result ≡ no_words_in (words_of line.now) }
+    ensures { result ≡ no_words (words_of line.now) }
 {
     match next_word(line) {
         None => Ok(()),
@@ -36,8 +36,8 @@ pub fn no_words(line: &[u8]) -> Result<(), Why>
 
 /// The two words; `Count` exactly where there are not two.
 pub fn two_words(line: &[u8]) -> Result<(&[u8], &[u8]), Why>
-    ensures { MatchResult result (λ pair. two_words_in (words_of line.now) ≡ Ok (pair.0.now, pair.1.now))
-        (λ why. two_words_in (words_of line.now) ≡ Err why) }
+    ensures { MatchResult result (λ pair. two_words (words_of line.now) ≡ Ok (pair.0.now, pair.1.now))
+        (λ why. two_words (words_of line.now) ≡ Err why) }
 {
     let (first, rest) = next_word(line).ok_or(Why::Count)?;
     let (second, rest) = next_word(rest).ok_or(Why::Count)?;
