@@ -1,5 +1,5 @@
 -- What one step of the controller adds to the bench, and what calls add.
-use Rattle.std.proofs.Common.{◌≡◌, refl, sym, ap, ◌∙◌, subst, ℕ, ◌+◌, ◌-◌, ◌≤◌, Bool, true, false, not, ◌==◌, List, [], ◌∷◌, ◌++◌, Option, Some, None, arith, eq-eqb}
+use Rattle.std.proofs.Common.{◌≡◌, refl, sym, ap, ◌∙◌, subst, ℕ, ◌-◌, ◌≤◌, Bool, false, List, [], ◌∷◌, ◌++◌, Option, Some, None, arith, eq-eqb}
 use Rattle.std.specs.Prelude.{count_by}
 use Rattle.flash_dev.specs.Device.{DeviceView}
 use Rattle.flash_dev.specs.Told.{Changes}
@@ -8,7 +8,7 @@ use Rattle.ec_model.specs.declared.event.Access.{Access}
 use Rattle.ec_model.specs.declared.event.Event.{Event}
 use Rattle.ec_model.specs.declared.event.Event.TheVariants.{Access as AccessEvent, Tick}
 use Rattle.ec_model.specs.declared.event.Entry.{Entry}
-use Rattle.ec_model.specs.declared.event.Entry.TheVariants.{Step, Mark}
+use Rattle.ec_model.specs.declared.event.Entry.TheVariants.{Step}
 use Rattle.ec_model.specs.declared.event.Hurt.{Hurt}
 use Rattle.ec_model.specs.declared.event.Hurt.TheVariants.{Whole, Failed, Cut}
 use Rattle.ec_model.specs.Table.{Table}
@@ -16,7 +16,6 @@ use Rattle.ec_model.specs.Step.{IsStep}
 use Rattle.ec_model.specs.HostCalls.{on_after_entry}
 use Rattle.ec_model.specs.Upset.{access_byte, event_byte, is_changed, is_cut_entry}
 use Rattle.ec_core.specs.Held.{on_behind, IsSpent}
-use Rattle.ec_core.specs.View.{EcView}
 use Rattle.ec_wire.specs.Calls.{WireView, RunsAlong, RoseBy, Grows, AccessAdds, WaitAdds, is_failed_entry}
 use Rattle.ec_wire.proofs.Calm.{with_byte-access_byte}
 use Rattle.bench_wire.specs.BenchView.{BenchView, wire_view}

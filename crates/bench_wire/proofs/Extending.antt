@@ -1,5 +1,5 @@
 -- Entries on a bench, one after the other, whatever they are.
-use Rattle.std.proofs.Common.{◌≡◌, refl, sym, ap, ◌∙◌, subst, ℕ, ◌+◌, Bool, List, [], ◌∷◌, ◌++◌, append_assoc, append-nil, arith}
+use Rattle.std.proofs.Common.{refl, sym, ap, ◌∙◌, subst, ℕ, Bool, List, [], ◌++◌, append_assoc, append-nil, arith}
 use Rattle.std.specs.Prelude.{count_by}
 use Rattle.ec_model.specs.declared.event.Entry.{Entry}
 use Rattle.ec_model.specs.HostCalls.{on_after}

@@ -1,5 +1,5 @@
 -- The line `hello` where nothing failed and the flash tells its bytes: each entry and each byte is known.
-use Rattle.std.proofs.Common.{◌≡◌, refl, sym, ap, ◌∙◌, subst, ℕ, ◌+◌, ◌≤◌, Bool, true, false, List, [], ◌∷◌, ◌++◌, length, map, Option, Some, None, arith}
+use Rattle.std.proofs.Common.{◌≡◌, refl, ap, ◌∙◌, subst, ℕ, ◌+◌, ◌≤◌, Bool, true, false, List, [], ◌∷◌, length, map, Option, Some, None, arith}
 use Rattle.std.specs.Prelude.{option_map, IfSome, count_by}
 use Rattle.flash_dev.specs.Counts.{Rose}
 use Rattle.flash_dev.specs.Ranges.{is_flash_size}
@@ -12,16 +12,16 @@ use Rattle.ec_model.specs.declared.event.Hurt.TheVariants.{Whole, Failed, Cut}
 use Rattle.ec_model.specs.Bodies.{hello_say}
 use Rattle.ec_model.specs.Bus.{fresh_bus}
 use Rattle.ec_model.specs.Boot.{booted, booted_live, booted_table}
-use Rattle.ec_model.specs.Table.{Table, Awake, Core, Valid, off_table}
+use Rattle.ec_model.specs.Table.{Table, Awake, Valid, off_table}
 use Rattle.ec_model.specs.Answer.{Answered}
 use Rattle.ec_model.specs.Handle.{handled}
-use Rattle.ec_model.specs.HostCalls.{HostCall, on_after, calls_of}
+use Rattle.ec_model.specs.HostCalls.{on_after, calls_of}
 use Rattle.ec_model.specs.Run.{IsRun}
-use Rattle.ec_model.specs.Send.{Heard, Reply}
+use Rattle.ec_model.specs.Send.{Reply}
 use Rattle.ec_model.specs.Step.{After, IsStep}
 use Rattle.ec_model.specs.Upset.{IsUndisturbed, is_cut_entry}
 use Rattle.ec_model.proofs.ValidEvents.{step-valid}
-use Rattle.ec_wire.specs.Calls.{WireView, RunsAlong, RoseBy, is_failed_entry, with_spare}
+use Rattle.ec_wire.specs.Calls.{WireView, RunsAlong, RoseBy, is_failed_entry}
 use Rattle.ec_wire.specs.Quiet.{IsCalm, quiet_entry}
 use Rattle.ec_wire.proofs.Calm.{undisturbed, determined}
 use Rattle.host_runs.specs.Exchange.{lpc_exchange, Exchanges}
@@ -33,8 +33,8 @@ use Rattle.ecbench.specs.declared.run.Exit.TheVariants.{Done}
 use Rattle.ecbench.specs.Reading.{Appends}
 use Rattle.ecbench.specs.Texts.{printed, answer_text}
 use Rattle.ecbench.specs.Hello.{hello_number, hello_request, hello_response, hello_text}
-use Rattle.ecbench.specs.Endings.{power_on, hello_journal, GreetsWell}
-use Rattle.ecbench.specs.Serving.{PowersOn, CarriesLine, Drives}
+use Rattle.ecbench.specs.Endings.{power_on, GreetsWell}
+use Rattle.ecbench.specs.Serving.{Drives}
 use Rattle.ecbench.proofs.Served.{line-entries, line-asked}
 
 -- where nothing failed, the boot read its flash

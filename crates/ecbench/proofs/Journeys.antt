@@ -1,7 +1,6 @@
 -- All that a run added to the journal, as one list of entries.
-use Rattle.std.proofs.Common.{◌≡◌, sym, ap, subst, ℕ, true, List, [], ◌∷◌, ◌++◌, Option, Some, None, refl}
+use Rattle.std.proofs.Common.{◌≡◌, sym, subst, ℕ, true, List, [], ◌∷◌, ◌++◌, Option, Some, None, refl}
 use Rattle.std.specs.Prelude.{option_map}
-use Rattle.flash_dev.specs.Told.{Changes}
 use Rattle.ec_types.specs.declared.bus.BusKind.TheVariants.{Lpc}
 use Rattle.ec_model.specs.declared.event.Entry.{Entry}
 use Rattle.ec_model.specs.declared.event.Entry.TheVariants.{Mark}
@@ -12,7 +11,7 @@ use Rattle.bench_wire.proofs.Extending.{extends-then, extends-grows, extends-nil
 use Rattle.ecbench.specs.declared.run.Exit.{Exit}
 use Rattle.ecbench.specs.declared.run.Exit.TheVariants.{Done, BadWords, BadFlash, BadLine, SourceFault, SinkFault, NoMemory}
 use Rattle.ecbench.specs.Endings.{power_on, RunsTo}
-use Rattle.ecbench.specs.Serving.{PowersOn, CarriesLine, CarriesOut, ServesScript, ServesBy, Serves, Drives}
+use Rattle.ecbench.specs.Serving.{CarriesLine, CarriesOut, ServesBy, Serves, Drives}
 
 -- some entries were added
 pub record Grew (old new : WireView) : Type 0 where

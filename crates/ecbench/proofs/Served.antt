@@ -1,6 +1,6 @@
 -- What each exit says, by what was done.
-use Rattle.std.proofs.Common.{◌≡◌, sym, ap, ◌∙◌, subst, ℕ, ◌+◌, ◌<◌, ◌≤◌, Bool, true, List, [], ◌∷◌, ◌++◌, length, length-append, Option, Some, None, inl, inr, refl, arith}
-use Rattle.std.specs.Prelude.{◌⊎◌, IfSome}
+use Rattle.std.proofs.Common.{◌≡◌, sym, ap, ◌∙◌, subst, ℕ, ◌+◌, ◌<◌, ◌≤◌, Bool, true, List, [], ◌∷◌, ◌++◌, length, length-append, Option, Some, None, inl, inr, arith}
+use Rattle.std.specs.Prelude.{IfSome}
 use Rattle.std.proofs.lemmas.Bool.{cases_lt}
 use Rattle.std.proofs.lemmas.List.{append-nil}
 use Rattle.ec_types.specs.declared.bus.BusKind.{BusKind}
@@ -14,7 +14,7 @@ use Rattle.ecbench.specs.declared.run.Exit.TheVariants.{Done, BadWords, BadFlash
 use Rattle.ecbench.specs.Reading.{Takes}
 use Rattle.ecbench.specs.Hello.{IsHello, hello_request}
 use Rattle.ecbench.specs.Endings.{power_on, OnlyPowered, Carried, IsStarted, Ends}
-use Rattle.ecbench.specs.Serving.{PowersOn, CarriesLine, ServesScript, Serves, Drives}
+use Rattle.ecbench.specs.Serving.{PowersOn, CarriesLine, Drives}
 
 -- the script that was taken whole is all that was left
 pub taken-whole : (fact : List ℕ → Type 0) (script : List ℕ) (left rest : Option (List ℕ)) → Takes script left rest → IfSome rest (λ bytes. bytes ≡ []) → fact script → IfSome left fact

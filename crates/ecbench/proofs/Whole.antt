@@ -8,7 +8,7 @@ use Rattle.ec_types.specs.declared.bus.BusKind.TheVariants.{Lpc}
 use Rattle.ec_model.specs.declared.event.Entry.{Entry}
 use Rattle.ec_model.specs.Table.{Table, off_table}
 use Rattle.ec_model.specs.Upset.{is_cut_entry}
-use Rattle.ec_wire.specs.Calls.{WireView, RunsAlong, RoseBy, is_failed_entry}
+use Rattle.ec_wire.specs.Calls.{RunsAlong, RoseBy, is_failed_entry}
 use Rattle.ec_wire.specs.Journals.{JournalView}
 use Rattle.ec_core.specs.View.{EcView}
 use Rattle.bench_wire.specs.BenchView.{BenchView, wire_view}

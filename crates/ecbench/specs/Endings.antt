@@ -1,6 +1,5 @@
 -- What each exit of a run says of the flash, the script, the printed bytes and the journal.
 use Rattle.std.specs.Prelude.{◌≡◌, ℕ, true, List, [], ◌∷◌, map, Option, IfSome, IsTrue, IsFalse}
-use Rattle.ec_types.specs.declared.why.Why.{Why}
 use Rattle.ec_types.specs.declared.why.Why.TheVariants as why
 use Rattle.ec_types.specs.declared.bus.BusKind.TheVariants.{Lpc}
 use Rattle.flash_dev.specs.Told.{Changes}

@@ -1,6 +1,5 @@
 -- The line `hello`: the script that has it, the request that it sends, and what an undisturbed controller answers.
 use Rattle.std.specs.Prelude.{◌≡◌, ◌⊎◌, ℕ, ◌+◌, List, [], ◌∷◌, ◌++◌, codes}
-use Rattle.ec_model.specs.declared.event.Entry.{Entry}
 use Rattle.ec_model.specs.Packet.{request_packet, response_packet}
 use Rattle.ec_model.specs.Bodies.{hello_ask, hello_say}
 

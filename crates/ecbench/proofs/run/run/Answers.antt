@@ -1,8 +1,5 @@
-use Rattle.std.proofs.Common.{◌≡◌, ap, sym, ◌∙◌, subst, refl, true, List}
-use Rattle.flash_dev.specs.Device.{DeviceView}
+use Rattle.std.proofs.Common.{◌≡◌, ap, sym, ◌∙◌, refl, true}
 use Rattle.flash_dev.specs.Ranges.{is_flash_size}
-use Rattle.ec_model.specs.declared.event.Entry.{Entry}
-use Rattle.ecbench.specs.Endings.{RunsTo}
 use Rattle.ecbench.proofs.Journeys.{runs-none}
 use Rattle.ecbench.proofs.Whole.{opens, run-ends, run-runs, run-faults, run-cuts, run-greets}
 use Rattle.ecbench.proofs.run.run.Goals as goal
