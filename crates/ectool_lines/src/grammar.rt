@@ -8,8 +8,10 @@ use crate::Tool;
 use ec_types::Why;
 use script_words::{check_line, hex_to, is_word, next_word, no_words, number_to, two_words};
 
-/// What a line without its line feed says, or the first thing that is wrong with it: `TooLong`, `Ascii`, `Word` where no
-/// line begins so, `Count`, and then `Number` or `Hex` of the first word from the left that is none.
+/// What a line without its line feed says, or the first thing that is wrong with it: `TooLong`, `Ascii`, then `Word` where
+/// no line begins with its first word, `Count` where none with that first word has so many words, and at last `Number` or
+/// `Hex` for the first word from the left that is not what it should be. A line that does nothing (`is_idle` tells it) is
+/// no such line, and gives `Word`.
 pub fn parse(line: &[u8]) -> Result<Tool, Why>
     ensures tool { result ≡ tool_of line.now }
     ensures within { IfOk result IsInRange }

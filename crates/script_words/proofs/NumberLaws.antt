@@ -10,6 +10,7 @@ use Rattle.std.specs.List.{list_all}
 use Rattle.std.specs.Str.Parse.{digits_value}
 use Rattle.script_words.specs.Numbers.{number_in}
 
+-- a test after which none passes
 last_false : (b : Bool) → (b && false) ≡ false
 last_false true = refl
 last_false false = refl

@@ -1,5 +1,7 @@
--- What stands behind the first word of a line: how many words, and what each of them is. The first fault counts, from the left.
-use Rattle.std.specs.Prelude.{ℕ, List, [], ◌∷◌, Some, None, Result, Ok, Err, nat_le, if◌then◌else◌}
+-- What stands behind the first word of a line: how many words, and what each of them is, read from the left up to the
+-- first fault.
+use Rattle.std.specs.Prelude.{ℕ, List, [], ◌∷◌, Result, Ok, Err, nat_le, if◌then◌else◌}
+use Rattle.std.specs.Option.{ok_or}
 use Rattle.ec_types.specs.declared.why.Why.{Why}
 use Rattle.ec_types.specs.declared.why.Why.TheVariants.{Count, Number, Hex}
 use Rattle.script_words.specs.Numbers.{number_of}
@@ -13,14 +15,11 @@ Err why >>= next = Err why
 
 -- a word that is a number, at most so large
 abbrev pub number_to : ℕ → List ℕ → Result ℕ Why
-number_to most word = elim (number_of word) [
-  | None ↦ Err Number
-  | Some number ↦ if nat_le number most then Ok number else Err Number
-]
+number_to most word = ok_or (number_of word) Number >>= λ number. if nat_le number most then Ok number else Err Number
 
 -- a word that spells bytes, at most so many
 abbrev pub hex_to : ℕ → List ℕ → Result (List ℕ) Why
-hex_to limit word = elim (hex_of limit word) [ None ↦ Err Hex | Some bytes ↦ Ok bytes ]
+hex_to limit word = ok_or (hex_of limit word) Hex
 
 -- no word
 abbrev pub no_words : List (List ℕ) → Result (Unit {0}) Why

@@ -6,7 +6,7 @@ ghost use Rattle.script_words.specs.Forms.{no_words, two_words};
 
 use ec_types::Why;
 
-/// The first word and what follows it, unless there is none.
+/// The first word and what follows it; None exactly where there is no word.
 pub fn next_word(line: &[u8]) -> Option<(&[u8], &[u8])>
     ensures { MatchOption result (words_of line.now ≡ []) (λ x. words_of line.now ≡ x.0.now ∷ words_of x.1.now) }
 {
