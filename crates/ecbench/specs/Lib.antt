@@ -4,3 +4,4 @@ pub mod Texts
 pub mod Hello
 pub mod Endings
 pub mod Serving
+pub mod Statuses

@@ -6,6 +6,7 @@ ghost use Rattle.ec_model.specs.Upset.{is_cut_entry};
 ghost use Rattle.ec_wire.specs.Calls.{RoseBy, is_failed_entry};
 ghost use Rattle.bench_wire.specs.BenchView.{wire_view};
 ghost use Rattle.ecbench.specs.Endings.{Ends, RunsTo, NothingFailed, GreetsWell};
+ghost use Rattle.ecbench.specs.Statuses.{exit_status};
 ghost use Rattle.ecbench.specs.Serving.{PowersOn, CarriesLine, CarriesOut, Serves, Drives};
 
 use crate::hello::hello;
@@ -54,7 +55,9 @@ pub enum Exit {
 
 impl Exit {
     /// The exit status of the program.
-    pub fn status(&self) -> u8 {
+    pub fn status(&self) -> u8
+        ensures { result ≡ exit_status self.now }
+    {
         match self {
             Exit::Done => 0,
             Exit::BadWords => 2,

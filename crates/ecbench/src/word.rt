@@ -1,5 +1,6 @@
 // A word of the command line.
-ghost use Rattle.std.specs.Prelude.{◌≡◌, IfOk, IsSome, IsTrue};
+ghost use Rattle.std.specs.Prelude.{◌≡◌, IfOk, MatchOption, IsTrue};
+ghost use Rattle.std.specs.Str.{IsUtf8};
 ghost use Rattle.ecbench.specs.Words.{names_flash, are_words};
 
 use std::alloc::{AllocError, Global};
@@ -40,9 +41,10 @@ impl Word {
         }
     }
 
-    /// The path of the flash file that it names, if it names one in UTF-8.
+    /// The path of the flash file that it names: itself, exactly where it names one and is UTF-8.
     pub fn flash_path(&self) -> Option<&str>
-        ensures { IsSome result → IsTrue (names_flash self.now) }
+        ensures { MatchOption result (¬ (IsTrue (names_flash self.now) × IsUtf8 self.now))
+            (λ path. IsTrue (names_flash self.now) × (path.now ≡ self.now)) }
     {
         if self.names_flash() {
             str::from_utf8(&self.bytes).ok()
