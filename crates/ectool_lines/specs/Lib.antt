@@ -1,1 +1,6 @@
 pub mod Tools
+pub mod Requests
+pub mod Texts
+pub mod Asking
+pub mod Sending
+pub mod Running

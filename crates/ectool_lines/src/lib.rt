@@ -1,10 +1,14 @@
 //! The lines of a script that send commands to the controller: what each of them says, and what is wrong with it.
 #![tactic(auto)]
 
+mod commands;
 mod grammar;
+mod sending;
+mod text;
 mod tool;
 
 pub use grammar::parse;
+pub use sending::{ToolErr, run};
 pub use tool::Tool;
 
 #[cfg(test)]

@@ -13,7 +13,7 @@ use ec_wire::Wire;
 use host_framing::{Raw, send_lpc};
 
 /// Sends a request once. At a status, `reply` is the body of the reply; a success has `want` bytes. It takes at most
-/// 1,500 entries of the wire's room.
+/// 531 entries of the wire's room, and asks for 1,500.
 pub fn once<W: Wire>(
     w: &mut W,
     command: u16,
@@ -26,7 +26,9 @@ pub fn once<W: Wire>(
     requires room { 1500 ≤ (W.view w.old).spare }
     requires short { 8 + length body.now ≤ 256 }
     requires plain { IsPlain (request_packet command version body.now) }
-    ensures { AsksOnce (request_packet command version body.now) want (ending_of result reply.new) (W.view w.old) (W.view w.new) }
+    ensures asks { AsksOnce (request_packet command version body.now) want (ending_of result reply.new) (W.view w.old) (W.view w.new) }
+    ensures want { result ≡ Once.Status 0 → length reply.new ≡ want }
+    ensures room { (W.view w.old).spare ≤ (W.view w.new).spare + 531 }
 {
     if !w.power() {
         return Once::NoPower;
@@ -50,7 +52,8 @@ pub fn once<W: Wire>(
 // What a reply says; its body takes its place.
 fn read_reply(want: usize, reply: &mut Packet) -> Once
     requires { IsTrue (is_response reply.old) }
-    ensures { ending_of result reply.new ≡ said_by want (response_view reply.old) }
+    ensures ending { ending_of result reply.new ≡ said_by want (response_view reply.old) }
+    ensures want { result ≡ Once.Status 0 → length reply.new ≡ want }
 {
     match decode_response(reply.as_slice()) {
         Ok(response) => {

@@ -1,4 +1,5 @@
 // How a request that was sent once ended.
+ghost use Rattle.std.specs.Prelude.{◌≡◌, ◌↔◌, IsTrue};
 
 /// How a request that was sent once ended.
 #[derive(Clone, Copy, Debug, PartialEq, Eq)]
@@ -11,4 +12,13 @@ pub enum Once {
     Silent,
     /// The controller was off before the send or behind it.
     NoPower,
+}
+
+impl Once {
+    /// Whether the request was answered with success.
+    pub fn is_success(&self) -> bool
+        ensures { IsTrue result ↔ (self.now ≡ Once.Status 0) }
+    {
+        matches!(self, Once::Status(0))
+    }
 }

@@ -1,0 +1,156 @@
+// The texts that lines print.
+ghost use Rattle.std.specs.Prelude.{◌≡◌, ◌≤◌, ◌+◌, ◌*◌, ◌++◌, [], ℕ, List, length, codes};
+ghost use Rattle.std.specs.Fmt.{decimal};
+ghost use Rattle.hex.specs.Hex.{encode_lower};
+ghost use Rattle.host_transport.specs.Ends.{ending_of};
+ghost use Rattle.ectool_lines.specs.Texts.{printed, refusal_text, status_text, reply_text, closing_text};
+
+use crate::Tool;
+use arrayvec::ArrayVec;
+use ec_packet::Packet;
+use ec_types::Status;
+use host_transport::Once;
+use itoa::Buffer;
+use std::marker::Model;
+
+/// The text of one line, in a buffer that holds the longest one.
+#[derive(Drop)]
+pub struct LineText {
+    bytes: ArrayVec<u8, 9216>,
+}
+
+impl Model for LineText {
+    ghost use Rattle.std.specs.Prelude.{◌≤◌, List, ℕ, length};
+
+    ghost Value = { List ℕ };
+
+    ghost view = { λ text. text.bytes.items };
+
+    ghost invariant = { λ text. length text.bytes.items ≤ 9216 };
+}
+
+impl LineText {
+    /// No text.
+    pub fn new() -> LineText
+        ensures { result ≡ [] }
+    {
+        LineText {
+            bytes: ArrayVec::new(),
+        }
+    }
+
+    /// Its bytes.
+    pub fn as_bytes(&self) -> &[u8]
+        ensures { result.now ≡ self.now }
+    {
+        self.bytes.as_slice()
+    }
+
+    /// Takes all of it out.
+    pub fn clear(&mut self)
+        ensures { self.new ≡ [] }
+    {
+        self.bytes.clear();
+    }
+
+    /// Appends bytes that fit.
+    fn append(&mut self, bytes: &[u8])
+        requires { length self.old + length bytes.now ≤ 9216 }
+        ensures { self.new ≡ self.old ++ bytes.now }
+    {
+        match self.bytes.try_extend_from_slice(bytes) {
+            Ok(()) => {}
+            Err(_) => unreachable!(),
+        }
+    }
+
+    /// Appends bytes as two lower case hexadecimal digits each.
+    fn append_hex(&mut self, bytes: &[u8])
+        requires few { length bytes.now ≤ 544 }
+        requires fits { length self.old + 2 * length bytes.now ≤ 9216 }
+        ensures text { self.new ≡ self.old ++ encode_lower bytes.now }
+        ensures long { length self.new ≡ length self.old + 2 * length bytes.now }
+    {
+        let mut buffer = [0; 1088];
+        let digits = &mut buffer[..2 * bytes.len()];
+        match hex::encode_to_slice(bytes, digits) {
+            Ok(()) => {}
+            Err(_) => unreachable!(),
+        }
+        self.append(digits);
+    }
+
+    // A status by its number and its name.
+    fn append_status(&mut self, status: u16)
+        requires { length self.old ≡ 0 }
+        ensures text { self.new ≡ self.old ++ status_text status }
+        ensures short { length self.new ≤ 64 }
+    {
+        let mut digits = Buffer::new();
+        self.append(b"EC result ");
+        self.append(digits.format(status).as_bytes());
+        self.append(b" (");
+        self.append(Status(status).name().as_bytes());
+        self.append(b")");
+    }
+
+    /// Tells, in place of what was there, that a command was no success.
+    pub(crate) fn refuse(&mut self, ended: Once)
+        ensures { (body : List ℕ) → self.new ≡ printed (refusal_text (ending_of ended body)) }
+    {
+        self.clear();
+        match ended {
+            Once::Status(status) => self.append_status(status),
+            Once::Bad | Once::Silent => self.append(b"EC did not answer"),
+            Once::NoPower => self.append(b"EC has no power"),
+        }
+        self.append(b"\n");
+    }
+
+    /// Appends what the reply to one of its commands gives to a line's text.
+    pub(crate) fn add_reply(&mut self, tool: &Tool, reply: &Packet)
+        requires few { length reply.now ≤ 544 }
+        requires fits { length self.old + 2 * length reply.now ≤ 9216 }
+        ensures text { self.new ≡ self.old ++ reply_text tool.now reply.now }
+        ensures long { length self.new ≤ length self.old + 2 * length reply.now }
+    {
+        match tool {
+            Tool::FlashRead { .. } => self.append_hex(reply.as_slice()),
+            Tool::Hello | Tool::FlashWrite { .. } => {}
+        }
+    }
+
+    // How many bytes were written.
+    fn append_written(&mut self, count: usize)
+        requires { length self.old ≤ 9000 }
+        ensures text { self.new ≡ self.old ++ (codes "wrote " ++ decimal count ++ codes " bytes") }
+        ensures short { length self.new ≤ length self.old + 64 }
+    {
+        let mut digits = Buffer::new();
+        self.append(b"wrote ");
+        self.append(digits.format(count).as_bytes());
+        self.append(b" bytes");
+    }
+
+    // How the text of a line ends that was a success, but for its line feed.
+    fn append_closing(&mut self, tool: &Tool)
+        requires { length self.old ≤ 9000 }
+        ensures text { self.new ≡ self.old ++ closing_text tool.now }
+        ensures short { length self.new ≤ length self.old + 64 }
+    {
+        match tool {
+            Tool::Hello => self.append(b"EC says hello!"),
+            Tool::FlashRead { .. } => {}
+            Tool::FlashWrite { at: _, bytes } => self.append_written(bytes.as_slice().len()),
+        }
+    }
+
+    /// Ends the text of a line that was a success.
+    pub(crate) fn close(&mut self, tool: &Tool)
+        requires { length self.old ≤ 9000 }
+        ensures { self.new ≡ printed (self.old ++ closing_text tool.now) }
+    {
+        self.append_closing(tool);
+        self.append(b"\n");
+    }
+}
