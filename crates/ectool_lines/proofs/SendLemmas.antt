@@ -1,5 +1,5 @@
 -- Commands of a line, one after the other.
-use Rattle.std.proofs.Common.{◌≡◌, refl, sym, ap, ◌∙◌, subst, ℕ, zero, suc, ◌+◌, ◌-◌, ◌*◌, ◌/◌, ◌%◌, ◌^◌, ◌==◌, min, ◌<◌, ◌≤◌, Bool, true, false, ◌&&◌, List, [], ◌∷◌, ◌++◌, length, take, drop, append_assoc, append-nil, ◌⊎◌, inl, inr, arith}
+use Rattle.std.proofs.Common.{◌≡◌, refl, sym, ap, ◌∙◌, subst, ℕ, zero, suc, ◌+◌, ◌-◌, ◌*◌, ◌/◌, ◌%◌, ◌^◌, ◌==◌, ◌<◌, ◌≤◌, Bool, true, false, ◌&&◌, List, [], ◌∷◌, ◌++◌, length, take, drop, append_assoc, append-nil, ◌⊎◌, inl, inr, arith}
 use Rattle.std.proofs.lemmas.Bool.{cases_lt}
 use Rattle.ec_model.proofs.GuardSteps.{if_cases}
 use Rattle.std.proofs.lemmas.List.{length-take}
@@ -30,18 +30,17 @@ pub succeed-more : {State : Type 0} (asks : State → Asked → List Entry → E
     AllSucceed asks old commands entries bodies middle → asks middle asked last (Said 0 body) new → AllSucceed asks old (commands ++ asked ∷ []) (entries ++ last) (bodies ++ body ∷ []) new
 succeed-more asks old [] entries bodies middle asked last body new before here =
     (last, [], body, [], new, ap (λ (front : List Entry). front ++ last) before.0 ∙ sym (append-nil last), ap (λ (front : List (List ℕ)). front ++ body ∷ []) before.1, subst (λ (state : _). asks state asked last (Said 0 body) new) before.2 here, (refl, refl, refl))
-succeed-more asks old (command ∷ commands) entries bodies middle asked last body new (first, rest, said, others, between, entries_are, bodies_are, asks_first, more) here =
-    (
-      first,
-      rest ++ last,
-      said,
-      others ++ body ∷ [],
-      between,
-      ap (λ (front : List Entry). front ++ last) entries_are ∙ append_assoc first rest last,
-      ap (λ (front : List (List ℕ)). front ++ body ∷ []) bodies_are,
-      asks_first,
-      succeed-more asks between commands rest others middle asked last body new more here,
-    )
+succeed-more asks old (command ∷ commands) entries bodies middle asked last body new (first, rest, said, others, between, entries_are, bodies_are, asks_first, more) here = (
+  first,
+  rest ++ last,
+  said,
+  others ++ body ∷ [],
+  between,
+  ap (λ (front : List Entry). front ++ last) entries_are ∙ append_assoc first rest last,
+  ap (λ (front : List (List ℕ)). front ++ body ∷ []) bodies_are,
+  asks_first,
+  succeed-more asks between commands rest others middle asked last body new more here,
+)
 
 -- what one more reply gives to a text
 pub replies-more : (tool : Tool) (bodies : List (List ℕ)) (body : List ℕ) → replies_text tool (bodies ++ body ∷ []) ≡ replies_text tool bodies ++ reply_text tool body

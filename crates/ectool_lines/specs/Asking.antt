@@ -3,14 +3,14 @@
 -- How one command goes is a parameter: a relation of a state before it, the command, its entries, its ending and the state
 -- behind it. So the same words tell what the host sees of any controller (the state is whether it is on), and what a
 -- controller that nothing disturbs answers (the state is all that it holds).
-use Rattle.std.specs.Prelude.{◌≡◌, ◌≢◌, ℕ, Bool, true, false, List, [], ◌∷◌, ◌++◌, IsFalse, Option, IfSome}
+use Rattle.std.specs.Prelude.{◌≡◌, ℕ, Bool, true, false, List, [], ◌∷◌, ◌++◌, IsFalse}
 use Rattle.std.specs.List.{list_any}
 use Rattle.ec_types.specs.Tables.{packet_limit}
 use Rattle.ec_types.specs.declared.bus.BusKind.{BusKind}
 use Rattle.ec_model.specs.declared.event.Entry.{Entry}
 use Rattle.ec_model.specs.declared.event.Entry.TheVariants.{Step, Mark}
 use Rattle.ec_model.specs.HostCalls.{on_after}
-use Rattle.ec_wire.specs.Calls.{WireView, Grows, with_spare}
+use Rattle.ec_wire.specs.Calls.{WireView, Grows}
 use Rattle.host_transport.specs.Once.{Ending, Said, AskedOnce}
 use Rattle.ectool_lines.specs.declared.tool.Tool.{Tool}
 use Rattle.ectool_lines.specs.Requests.{Asked, packet_of, commands_of}

@@ -1,7 +1,6 @@
-use Rattle.std.proofs.Common.{◌≡◌, refl, sym, ap, ◌∙◌, subst, ℕ, ◌<◌, length, arith}
+use Rattle.std.proofs.Common.{◌≡◌, ap, ◌∙◌, subst, ℕ, ◌<◌, arith}
 use Rattle.ec_types.specs.Tables.{packet_limit}
-use Rattle.ec_wire.specs.Calls.{WireView}
-use Rattle.host_transport.specs.Once.{Ending, Said, AsksOnce}
+use Rattle.host_transport.specs.Once.{Said, AsksOnce}
 use Rattle.host_transport.specs.Ends.{ending_of}
 use Rattle.host_transport.specs.declared.ending.Once.{Once}
 use Rattle.ectool_lines.specs.Requests.{Asked, packet_of, command_of, count_of}
@@ -44,10 +43,9 @@ loop-k-preserved g c =
     let asked : asked_of c.command-command.result ≡ command_of 256 tool c.loop-k.k = c.command-command.ensures.asked ∙ ap (λ (n : ℕ). command_of n tool c.loop-k.k) limit in
     let success = c.is_success.ensures.0 c.if-not-is_success.false in
     let asks : AsksOnce (packet_of (asked_of c.command-command.result)) c.command-command.result.want (Said 0 c.send-ended.new.reply) (g.W.Wire.view c.loop-k.w) (g.W.Wire.view c.send-ended.new.w) =
-    subst (λ (ended : Once). AsksOnce (packet_of (asked_of c.command-command.result)) c.command-command.result.want (ending_of ended c.send-ended.new.reply) (g.W.Wire.view c.loop-k.w) (g.W.Wire.view c.send-ended.new.w)) success c.send-ended.ensures.asks in
-    (
+    subst (λ (ended : Once). AsksOnce (packet_of (asked_of c.command-command.result)) c.command-command.result.want (ending_of ended c.send-ended.new.reply) (g.W.Wire.view c.loop-k.w) (g.W.Wire.view c.send-ended.new.w)) success c.send-ended.ensures.asks in (
       rw c.add_reply.ensures.text
-      (went-on tool c.loop-k.k (g.W.Wire.view c.args.w.now) (g.W.Wire.view c.loop-k.w) (g.W.Wire.view c.send-ended.new.w) c.loop-k.text c.send-ended.new.reply (asked_of c.command-command.result) asked c.loop-k.invariant.0 asks),
+          (went-on tool c.loop-k.k (g.W.Wire.view c.args.w.now) (g.W.Wire.view c.loop-k.w) (g.W.Wire.view c.send-ended.new.w) c.loop-k.text c.send-ended.new.reply (asked_of c.command-command.result) asked c.loop-k.invariant.0 asks),
       omega (arith, c.add_reply.ensures.long, c.send-ended.ensures.want success, ap (λ (command : Asked). command.want) asked, command-wants tool c.loop-k.k, c.loop-k.invariant.1),
       omega (arith, c.send-ended.ensures.room, c.loop-k.invariant.2),
     )

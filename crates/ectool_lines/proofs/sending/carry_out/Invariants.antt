@@ -1,5 +1,4 @@
-use Rattle.std.proofs.Common.{◌≡◌, ◌≤◌, ◌+◌, ◌*◌, length}
-use Rattle.ec_types.specs.declared.bus.BusKind.TheVariants.{Lpc as LpcKind}
+use Rattle.std.proofs.Common.{◌≤◌, ◌+◌, ◌*◌, length}
 use Rattle.ectool_lines.proofs.SendLemmas.{Went}
 use Rattle.ectool_lines.proofs.sending.carry_out.Given as goal
 
