@@ -13,7 +13,8 @@ use Rattle.ec_model.specs.declared.event.Event.TheVariants.{Access, Tick, Reset,
 use Rattle.ec_model.specs.Bus.{BusState, kind_of, fresh_bus, due_now}
 use Rattle.ec_model.specs.Table.{Core, table_of, off_table}
 use Rattle.ec_model.specs.Boot.{booted}
-use Rattle.ec_model.specs.Step.{Boot, WorkLeaves, OffLeaves, work_off, lost_answer, operations_of, After}
+use Rattle.ec_model.specs.Work.{Boot, work_off, lost_answer, operations_of, After}
+use Rattle.ec_model.specs.Step.{WorkLeaves, OffLeaves}
 use Rattle.ec_boot.specs.States.{RunView, OffView, core_at, told_core, IsLookedAt}
 use Rattle.command_table.specs.After.{Follows}
 use Rattle.ec_core.specs.Held.{up_table, down_table, IsSpent, EventTold, answer_by, boot_hurt}

@@ -15,7 +15,9 @@ use Rattle.ec_model.specs.Bus.{BusState, BusAnswer, due_now, OnLpc, OnI2c, OnSpi
 use Rattle.ec_model.specs.Table.{Core, Table, table_of, off_table}
 use Rattle.ec_model.specs.Answer.{Outcome, Answered, Restarts}
 use Rattle.ec_model.specs.Handle.{admitted, admitted_from, asked, row_of, operations_by, handled, handled_reads, handled_operations}
-use Rattle.ec_model.specs.Step.{Work, Serve, WorkLeaves, after_outcome, after_unread, outcome_reads, After as AfterEvent, error_replied, failed_core, work_on, lost_answer, operations_of, work_operations}
+use Rattle.ec_model.specs.Work.{Work, Serve, After as AfterEvent, work_on, lost_answer, operations_of, work_operations}
+use Rattle.ec_model.specs.WholeStep.{after_outcome}
+use Rattle.ec_model.specs.Step.{WorkLeaves, after_unread, outcome_reads, error_replied, failed_core}
 use Rattle.ec_packet.specs.declared.request.Request.{Request}
 use Rattle.ec_packet.specs.Read.{request_view, IsReadAs}
 use Rattle.ec_wire.specs.Dues.{asked_of}

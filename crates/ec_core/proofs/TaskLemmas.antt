@@ -10,7 +10,9 @@ use Rattle.ec_model.specs.declared.event.Event.TheVariants.{Access, Tick, Reset,
 use Rattle.ec_model.specs.HostCalls.{on_after_event}
 use Rattle.ec_model.specs.Bus.{BusState, BusAnswer, kind_of}
 use Rattle.ec_model.specs.Table.{Table, table_of, off_table}
-use Rattle.ec_model.specs.Step.{Work, Rest, Serve, Stop, SetPin, WorkLeaves, work_on, work_off, worked_off, bus_after, lost_answer, operations_of, After}
+use Rattle.ec_model.specs.Work.{Work, Rest, Serve, Stop, SetPin, work_on, work_off, bus_after, lost_answer, operations_of, After}
+use Rattle.ec_model.specs.WholeStep.{worked_off}
+use Rattle.ec_model.specs.Step.{WorkLeaves}
 use Rattle.ec_wire.specs.Dues.{asked_of}
 use Rattle.ec_boot.specs.States.{RunView, OffView, core_at, told_core}
 use Rattle.ec_boot.specs.Spent.{Costs, RisesAtMost}

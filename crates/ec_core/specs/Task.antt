@@ -7,7 +7,7 @@ use Rattle.ec_model.specs.declared.event.Hurt.TheVariants.{Cut}
 use Rattle.ec_model.specs.Bus.{BusState, due_now}
 use Rattle.ec_model.specs.HostCalls.{on_after_event}
 use Rattle.ec_model.specs.Guarded.{pin_after}
-use Rattle.ec_model.specs.Step.{Work, Rest, Serve, Boot, Stop, SetPin, work_on, work_off, bus_after, lost_answer}
+use Rattle.ec_model.specs.Work.{Work, Rest, Serve, Boot, Stop, SetPin, work_on, work_off, bus_after, lost_answer}
 use Rattle.ec_wire.specs.Dues.{asked_of}
 use Rattle.ec_boot.specs.States.{RunView}
 use Rattle.ec_core.specs.Held.{awake_of, kept_table, kept_device, kept_pin, is_kept_up, IsKept, IsSpent, IsSilent, EventTold, answer_by, on_behind}

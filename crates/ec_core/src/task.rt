@@ -1,7 +1,7 @@
 // What an event has the controller do.
 ghost use Rattle.std.specs.Prelude.{◌≡◌, IsNone};
 ghost use Rattle.ec_model.specs.Bus.{due_now};
-ghost use Rattle.ec_model.specs.Step.{cause_of, lost_answer, idle_work, Rest};
+ghost use Rattle.ec_model.specs.Work.{cause_of, lost_answer, idle_work, Rest};
 ghost use Rattle.ec_core.specs.Held.{IsKept};
 ghost use Rattle.ec_core.specs.Task.{IsTaken, IsTakenUp, IsTakenDown};
 

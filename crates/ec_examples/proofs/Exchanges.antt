@@ -7,7 +7,9 @@ use Rattle.ec_model.specs.declared.event.Event.TheVariants.{Access, Tick}
 use Rattle.ec_model.specs.declared.event.Entry.{Entry}
 use Rattle.ec_model.specs.declared.event.Entry.TheVariants.{Step, Mark}
 use Rattle.ec_model.specs.HostCalls.{HostCall, Did, Waited, calls_of, call_before}
-use Rattle.ec_model.specs.Send.{Reply, Bad, Send, LpcWasServed, is_all_read, reads_on, heard_if, heard_with, port_writes, port_reads, spaced_reads, status_in}
+use Rattle.ec_model.specs.Heard.{Reply, Bad, is_all_read, reads_on, heard_if, heard_with, port_writes, port_reads, spaced_reads}
+use Rattle.ec_model.specs.SendLpc.{LpcWasServed, status_in}
+use Rattle.ec_model.specs.Send.{Send}
 use Rattle.ec_examples.specs.Sends.{hello_request, changed_lpc}
 use Rattle.ec_examples.specs.Entries.{plain, written_ports, read_ports, lpc_asked, lpc_exchange, waited}
 

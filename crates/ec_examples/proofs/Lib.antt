@@ -2,3 +2,4 @@ pub mod Exchanges
 pub mod TryLemmas
 pub mod SyncLemmas
 pub mod RoundLemmas
+pub mod BenchLemmas

@@ -2,8 +2,11 @@
 use Rattle.std.proofs.Common.{◌≡◌, refl, sym, subst, ℕ, true, List, [], ◌∷◌, ◌++◌, take}
 use Rattle.ec_types.specs.declared.bus.BusKind.TheVariants.{I2c}
 use Rattle.ec_model.specs.HostCalls.{HostView, calls_of, view_after}
-use Rattle.ec_model.specs.Send.{Heard, Reply, Send, I2cSend, I2cWasUnstarted, I2cWasUnwritten, I2cWasUnread, I2cWasServed}
-use Rattle.ec_model.specs.Tries.{Tries, Status, Answered, Final, packet_of, Unsent, unsent, IsSent, AsksBy}
+use Rattle.ec_model.specs.Heard.{Heard, Reply}
+use Rattle.ec_model.specs.SendI2c.{I2cSend, I2cWasUnstarted, I2cWasUnwritten, I2cWasUnread, I2cWasServed}
+use Rattle.ec_model.specs.Send.{Send}
+use Rattle.ec_model.specs.Asks.{Status, packet_of, Unsent, unsent, IsSent, AsksBy}
+use Rattle.ec_model.specs.Tries.{Tries, Answered, Final}
 use Rattle.ec_model.specs.Rounds.{AsksNoProtocol, IsRound, protocol_request as protocol_asked}
 use Rattle.ec_examples.specs.I2cExchanges.{stopped, i2c_exchange, protocol_request, protocol_response, short_round}
 

@@ -3,8 +3,9 @@ use Rattle.std.proofs.Common.{◌≡◌, refl, sym, subst, ℕ, true, List, [], 
 use Rattle.ec_types.specs.declared.bus.BusKind.TheVariants.{Lpc}
 use Rattle.ec_model.specs.Packet.{RequestView}
 use Rattle.ec_model.specs.HostCalls.{HostView, view_after}
-use Rattle.ec_model.specs.Send.{Reply, is_all_read, reads_on, heard_if, heard_with}
-use Rattle.ec_model.specs.Tries.{got, SendsOnce, packet_of, TakesTurn, turn_of, comms_request as comms_asked, IsSent, Unsent, unsent, AsksBy}
+use Rattle.ec_model.specs.Heard.{Reply, is_all_read, reads_on, heard_if, heard_with}
+use Rattle.ec_model.specs.Asks.{got, SendsOnce, packet_of, IsSent, Unsent, unsent, AsksBy}
+use Rattle.ec_model.specs.Polls.{TakesTurn, turn_of, comms_request as comms_asked}
 use Rattle.ec_examples.specs.Entries.{lpc_exchange, waited}
 use Rattle.ec_examples.specs.Tries.{comms_request, turn, on_lpc}
 use Rattle.ec_examples.proofs.Exchanges.{lpc_exchange-sent}

@@ -7,7 +7,7 @@ use Rattle.ec_model.specs.declared.event.Entry.{Entry}
 use Rattle.ec_model.specs.declared.event.Entry.TheVariants.{Step}
 use Rattle.ec_model.specs.declared.event.Hurt.TheVariants.{Whole}
 use Rattle.ec_model.specs.Table.{Table}
-use Rattle.ec_model.specs.Step.{stepped}
+use Rattle.ec_model.specs.WholeStep.{stepped}
 use Rattle.ec_model.specs.Upset.{event_byte}
 
 -- an event that is answered so, where nothing fails and no byte is changed

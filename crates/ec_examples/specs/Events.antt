@@ -7,7 +7,7 @@ use Rattle.ec_model.specs.declared.event.Event.{Event}
 use Rattle.ec_model.specs.declared.event.Event.TheVariants.{Access, Tick}
 use Rattle.ec_model.specs.Table.{Table}
 use Rattle.ec_model.specs.Boot.{booted_table}
-use Rattle.ec_model.specs.Step.{stepped}
+use Rattle.ec_model.specs.WholeStep.{stepped}
 
 -- the controller behind a power-on, with the pin asserted
 abbrev pub powered : List ℕ → BusKind → Table

@@ -5,7 +5,7 @@ use Rattle.ec_model.specs.declared.event.Entry.{Entry}
 use Rattle.ec_model.specs.Packet.{RequestView}
 use Rattle.ec_model.specs.Bodies.{hello_ask, flash_erase_ask}
 use Rattle.ec_model.specs.HostCalls.{HostView}
-use Rattle.ec_model.specs.Tries.{Setting}
+use Rattle.ec_model.specs.Asks.{Setting}
 use Rattle.ec_examples.specs.Entries.{lpc_exchange, waited}
 use Rattle.ec_examples.specs.Sends.{hello_request, hello_response, changed_lpc}
 

@@ -1,7 +1,8 @@
 // One request as the host sends it on each bus: undisturbed, with a reset in it, and with a changed byte.
 ghost use Rattle.std.specs.Prelude.{◌≡◌, ℕ, IsTrue, IsFalse, List, ◌++◌, length};
 ghost use Rattle.ec_types.specs.declared.bus.BusKind.TheVariants.{Lpc, I2c, Spi};
-ghost use Rattle.ec_model.specs.Send.{Send, Bad, Silent, Exchange};
+ghost use Rattle.ec_model.specs.Heard.{Bad, Silent};
+ghost use Rattle.ec_model.specs.Send.{Send, Exchange};
 ghost use Rattle.ec_model.specs.Upset.{has_one_byte};
 ghost use Rattle.ec_examples.specs.Sends.{hello_request, hello_response, hello_lpc, hello_i2c, hello_spi, reset_lpc, reset_i2c, reset_spi, changed_lpc, changed_spi, changed_beside_a_reset};
 

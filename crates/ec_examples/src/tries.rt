@@ -2,8 +2,10 @@
 ghost use Rattle.std.specs.Prelude.{◌≡◌, true, false, [], ◌∷◌};
 ghost use Rattle.ec_model.specs.Bodies.{hello_say};
 ghost use Rattle.ec_model.specs.Packet.{response_packet};
-ghost use Rattle.ec_model.specs.Send.{Reply, Bad, Silent};
-ghost use Rattle.ec_model.specs.Tries.{NoReply, Status, got, Tries, Answered, SaidNoPower, SaidShort, Polls, Idle, is_unclean, try_end, Again, Final};
+ghost use Rattle.ec_model.specs.Heard.{Reply, Bad, Silent};
+ghost use Rattle.ec_model.specs.Asks.{NoReply, Status, got};
+ghost use Rattle.ec_model.specs.Polls.{Polls, Idle};
+ghost use Rattle.ec_model.specs.Tries.{Tries, Answered, SaidNoPower, SaidShort, is_unclean, try_end, Again, Final};
 ghost use Rattle.ec_examples.specs.Tries.{on_lpc, with_room, hello_asked, erase_asked, hello_tried, erase_tried, erase_poll, hello_thrice};
 
 /// A reply of success has the length that is wanted, or is none; a reply of another status may have any.

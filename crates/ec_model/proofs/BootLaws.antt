@@ -14,8 +14,10 @@ use Rattle.ec_model.specs.Operations.{Operation, StopsAt}
 use Rattle.ec_model.specs.Answer.{Outcome, Answered, Restarts}
 use Rattle.ec_model.specs.FlashRows.{unless_refused, write_refusal}
 use Rattle.ec_model.specs.Handle.{Admitted, row, row_of, row_operations, operations_by, asked, handled}
-use Rattle.ec_model.specs.Step.{After, IsStep, Work, Serve, EraseNext, Boot, work_on, work_operations, after_outcome, after_unread, WorkLeaves, OffLeaves, EventLeavesBy, bus_after, lost_answer}
-use Rattle.ec_model.specs.Guarded.{Guarded, boots, boots_by, is_boot, is_restart, is_locked_if_on, is_power_on, keeps_pin, runs_ro, runs_ro_locked}
+use Rattle.ec_model.specs.Work.{is_power_on, After, Work, Serve, EraseNext, Boot, work_on, work_operations, bus_after, lost_answer}
+use Rattle.ec_model.specs.WholeStep.{after_outcome}
+use Rattle.ec_model.specs.Step.{IsStep, after_unread, WorkLeaves, OffLeaves, EventLeavesBy}
+use Rattle.ec_model.specs.Guarded.{Guarded, boots, boots_by, is_boot, is_restart, is_locked_if_on, keeps_pin, runs_ro, runs_ro_locked}
 use Rattle.ec_model.proofs.GuardStep.{step-kept}
 use Rattle.ec_model.proofs.StepLaws.{kind-step}
 

@@ -20,7 +20,9 @@ use Rattle.ec_model.specs.Bus.{BusAnswer, BusState, OnLpc, OnI2c, OnSpi, I2cStat
 use Rattle.ec_model.specs.Table.{Table, Awake, Power, Off, On, Core, Valid, IsPowerValid, core_of}
 use Rattle.ec_model.specs.Hash.{hash_ticked}
 use Rattle.ec_model.specs.Answer.{Outcome, Answered, Restarts}
-use Rattle.ec_model.specs.Step.{After, IsStep, Work, Rest, Serve, EraseNext, HashNext, Boot, Stop, SetPin, serve_or, idle_work, hash_work, work_on, work_operations, worked, unread, unfinished, failed_core, after_outcome, after_unread, WorkLeaves, OffLeaves, EventLeavesBy, bus_after, lost_answer, stepped, stepped_by}
+use Rattle.ec_model.specs.Work.{After, Work, Rest, Serve, EraseNext, HashNext, Boot, Stop, SetPin, serve_or, idle_work, hash_work, work_on, work_operations, bus_after, lost_answer}
+use Rattle.ec_model.specs.WholeStep.{worked, after_outcome, stepped, stepped_by}
+use Rattle.ec_model.specs.Step.{IsStep, unread, unfinished, failed_core, after_unread, WorkLeaves, OffLeaves, EventLeavesBy}
 use Rattle.ec_model.specs.Guarded.{pin_after}
 use Rattle.ec_model.proofs.GuardSteps.{if_cases}
 use Rattle.ec_model.proofs.GuardRows.{KeepsOutcome, same-touched, same-touched_by}

@@ -25,7 +25,9 @@ use Rattle.ec_model.specs.Hash.{touched, hash_ticked, is_hash_over, without_hash
 use Rattle.ec_model.specs.Operations.{Operation, Erase, touched_by}
 use Rattle.ec_model.specs.Answer.{Outcome, Answered, Restarts}
 use Rattle.ec_model.specs.Handle.{asked, handled}
-use Rattle.ec_model.specs.Step.{After, Work, Rest, Serve, EraseNext, HashNext, Boot, Stop, SetPin, IsStep, serve_or, idle_work, hash_work, work_on, work_operations, worked, after_outcome, after_unread, block_erased, with_job, job_left, saved_after, unread, unfinished, failed_core, error_replied, WorkLeaves, OffLeaves, EventLeavesBy, bus_after, lost_answer}
+use Rattle.ec_model.specs.Work.{After, Work, Rest, Serve, EraseNext, HashNext, Boot, Stop, SetPin, serve_or, idle_work, hash_work, work_on, work_operations, bus_after, lost_answer}
+use Rattle.ec_model.specs.WholeStep.{worked, after_outcome, block_erased, with_job, job_left, saved_after}
+use Rattle.ec_model.specs.Step.{IsStep, after_unread, unread, unfinished, failed_core, error_replied, WorkLeaves, OffLeaves, EventLeavesBy}
 use Rattle.ec_model.proofs.GuardLemmas.{AllAbove, leaves-operated, leaves-stopped}
 use Rattle.ec_model.proofs.GuardSteps.{if_cases, or_parts}
 use Rattle.ec_model.proofs.GuardWork.{spelled_from}

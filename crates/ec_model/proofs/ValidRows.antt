@@ -18,7 +18,7 @@ use Rattle.ec_model.specs.Hash.{touched, is_hash_over, without_hash, with_hash}
 use Rattle.ec_model.specs.Operations.{Operation, Program, operation_range, operated_all, touched_by}
 use Rattle.ec_model.specs.Answer.{Outcome, Answered, Restarts, done}
 use Rattle.ec_model.specs.InfoRows.{mask_told, range_told, test_row}
-use Rattle.ec_model.specs.FlashRows.{unless_refused, asked_range, read_refusal, write_refusal, written, flash_write_row, erase_refusal, flash_erase_row, is_whole}
+use Rattle.ec_model.specs.FlashRows.{unless_refused, asked_range, read_refusal, write_refusal, written, flash_write_row, erase_refusal, flash_erase_row, is_whole_units}
 use Rattle.ec_model.specs.ProtectRow.{protect_operations, storing_operations, same_bits, wanted, bits_stored, locked_live, locks_set, can_lock, protected, is_asked}
 use Rattle.ec_model.specs.Stored.{stored, ro_now_flag, all_now_flag}
 use Rattle.ec_model.specs.HashRow.{vboot_hash_row, hash_start_row, hash_asked, hash_range, first_of_region}
@@ -118,8 +118,8 @@ erase-valid : (core : Core) (body : List ℕ) → IsCoreValid core → ValidOutc
 erase-valid core body valid =
     let range = asked_range body in
     unless-valid core (erase_refusal core body) _ valid (λ none.
-    let tests = refusal_cases (not (is_whole block_size core range)) (is_blocked (length core.flash) core.live range) none in
-    let whole = not_false (is_whole block_size core range) tests.0 in
+    let tests = refusal_cases (not (is_whole_units block_size core range)) (is_blocked (length core.flash) core.live range) none in
+    let whole = not_false (is_whole_units block_size core range) tests.0 in
     let three = and_parts (not (range.size == 0) && (range.at % block_size == 0) && (range.size % block_size == 0)) (ends_within (length core.flash) range) whole in
     let two = and_parts (not (range.size == 0) && (range.at % block_size == 0)) (range.size % block_size == 0) three.0 in
     let one = and_parts (not (range.size == 0)) (range.at % block_size == 0) two.0 in

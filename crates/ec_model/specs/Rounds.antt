@@ -4,8 +4,10 @@ use Rattle.ec_types.specs.declared.bus.BusKind.{BusKind}
 use Rattle.ec_model.specs.declared.event.Entry.{Entry}
 use Rattle.ec_model.specs.Packet.{RequestView}
 use Rattle.ec_model.specs.HostCalls.{HostView, view_after}
-use Rattle.ec_model.specs.Send.{Heard, Send, Quiet}
-use Rattle.ec_model.specs.Tries.{Setting, Tries, Said, Answered, packet_of}
+use Rattle.ec_model.specs.Heard.{Heard}
+use Rattle.ec_model.specs.Send.{Send, Quiet}
+use Rattle.ec_model.specs.Asks.{Setting, packet_of}
+use Rattle.ec_model.specs.Tries.{Tries, Said, Answered}
 
 -- GET_PROTOCOL_INFO, which begins a round
 abbrev pub protocol_request : RequestView

@@ -17,8 +17,9 @@ use Rattle.ec_model.specs.Answer.{Answered}
 use Rattle.ec_model.specs.Handle.{handled}
 use Rattle.ec_model.specs.HostCalls.{on_after, calls_of}
 use Rattle.ec_model.specs.Run.{IsRun}
-use Rattle.ec_model.specs.Send.{Reply}
-use Rattle.ec_model.specs.Step.{After, IsStep}
+use Rattle.ec_model.specs.Heard.{Reply}
+use Rattle.ec_model.specs.Work.{After}
+use Rattle.ec_model.specs.Step.{IsStep}
 use Rattle.ec_model.specs.Upset.{IsUndisturbed, is_cut_entry}
 use Rattle.ec_model.proofs.ValidEvents.{step-valid}
 use Rattle.ec_wire.specs.Calls.{WireView, RunsAlong, RoseBy, is_failed_entry}

@@ -18,7 +18,7 @@ use Rattle.ec_model.specs.Run.{IsRun}
 use Rattle.ec_model.specs.Table.{Table, Power, Off, On, Awake, Core, Valid, is_on, core_of}
 use Rattle.ec_model.specs.Answer.{Answered}
 use Rattle.ec_model.specs.Handle.{handled}
-use Rattle.ec_model.specs.Send.{Heard, Silent}
+use Rattle.ec_model.specs.Heard.{Heard, Silent}
 use Rattle.ec_model.specs.Syncable.{settled}
 use Rattle.ec_wire.specs.Calls.{WireView, Grows, Agrees}
 use Rattle.ec_wire.proofs.Calm.{or-false, calm_entry, undisturbed}

@@ -5,7 +5,9 @@ use Rattle.ec_types.specs.declared.bus.BusKind.TheVariants.{Lpc}
 use Rattle.ec_model.specs.declared.event.Access.TheVariants.{PortOut, PortIn}
 use Rattle.ec_model.specs.Packet.{response_length}
 use Rattle.ec_model.specs.HostCalls.{HostCall, Did, calls_of}
-use Rattle.ec_model.specs.Send.{Heard, Bad, Silent, waited_reads, spaced_reads, status_in, port_reads, port_writes, LpcSend, LpcWasBlocked, LpcWasUnserved, LpcWasServed, LpcQuiet, is_all_read, reads_on, heard_if, heard_with}
+use Rattle.ec_model.specs.Heard.{Heard, Bad, Silent, waited_reads, spaced_reads, port_reads, port_writes, is_all_read, reads_on, heard_if, heard_with}
+use Rattle.ec_model.specs.SendLpc.{status_in, LpcSend, LpcWasBlocked, LpcWasUnserved, LpcWasServed}
+use Rattle.ec_model.specs.Send.{LpcQuiet}
 use Rattle.ec_wire.specs.Calls.{WireView, Made}
 use Rattle.host_framing.specs.Parts.{PollsWaited, PollsSpaced, WritesPorts, ReadsPorts, LpcAsks, LpcHears, Quiets, Sends}
 use Rattle.ec_wire.proofs.Growth.{made-then, made-as}

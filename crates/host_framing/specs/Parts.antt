@@ -5,7 +5,9 @@ use Rattle.ec_model.specs.declared.event.Access.TheVariants.{PortIn}
 use Rattle.ec_model.specs.declared.event.Entry.{Entry}
 use Rattle.ec_model.specs.Bus.{is_busy}
 use Rattle.ec_model.specs.HostCalls.{HostCall, Did}
-use Rattle.ec_model.specs.Send.{Heard, poll_end, waited_reads, spaced_reads, status_in, port_reads, port_writes, LpcAsked, LpcBlocked, is_all_read, reads_on, heard_if, heard_with, Send, Quiet}
+use Rattle.ec_model.specs.Heard.{Heard, poll_end, waited_reads, spaced_reads, port_reads, port_writes, is_all_read, reads_on, heard_if, heard_with}
+use Rattle.ec_model.specs.SendLpc.{status_in, LpcAsked, LpcBlocked}
+use Rattle.ec_model.specs.Send.{Send, Quiet}
 use Rattle.ec_wire.specs.Calls.{WireView, Grows, Made}
 
 -- a poll of at most four waits and reads

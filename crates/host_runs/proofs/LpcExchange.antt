@@ -7,7 +7,9 @@ use Rattle.ec_model.specs.declared.event.Entry.{Entry}
 use Rattle.ec_model.specs.Packet.{response_packet}
 use Rattle.ec_model.specs.Bus.{BusState, OnLpc, OnI2c, OnSpi, is_busy, kind_of, low_status}
 use Rattle.ec_model.specs.HostCalls.{HostCall, Did, calls_of}
-use Rattle.ec_model.specs.Send.{Heard, poll_end, waited_reads, spaced_reads, status_in, port_reads, port_writes, LpcServed, Send, LpcSend, LpcWasBlocked, LpcWasUnserved, LpcWasServed}
+use Rattle.ec_model.specs.Heard.{Heard, poll_end, waited_reads, spaced_reads, port_reads, port_writes}
+use Rattle.ec_model.specs.SendLpc.{status_in, LpcServed, LpcSend, LpcWasBlocked, LpcWasUnserved, LpcWasServed}
+use Rattle.ec_model.specs.Send.{Send}
 use Rattle.ec_model.specs.Table.{Table, Awake, On, Core, Valid, core_of, table_of}
 use Rattle.ec_model.specs.Answer.{Outcome, Answered}
 use Rattle.ec_model.specs.Handle.{handled, asked}

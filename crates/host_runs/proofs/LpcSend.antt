@@ -12,12 +12,15 @@ use Rattle.ec_model.specs.declared.event.Hurt.TheVariants.{Whole}
 use Rattle.ec_model.specs.Packet.{response_packet, response_length}
 use Rattle.ec_model.specs.Bus.{BusState, OnLpc, OnI2c, OnSpi, kind_of, is_busy, low_status}
 use Rattle.ec_model.specs.HostCalls.{HostCall, Did, Waited}
-use Rattle.ec_model.specs.Send.{Heard, Reply, poll_end, waited_reads, spaced_reads, status_in, port_reads, port_writes, LpcSend, LpcWasBlocked, LpcWasUnserved, LpcWasServed, LpcQuiet, is_all_read, reads_on, heard_if, heard_with}
+use Rattle.ec_model.specs.Heard.{Heard, Reply, poll_end, waited_reads, spaced_reads, port_reads, port_writes, is_all_read, reads_on, heard_if, heard_with}
+use Rattle.ec_model.specs.SendLpc.{status_in, LpcSend, LpcWasBlocked, LpcWasUnserved, LpcWasServed}
+use Rattle.ec_model.specs.Send.{LpcQuiet}
 use Rattle.ec_model.specs.Table.{Table, Awake, Power, Off, On, Core, Valid, IsBusValid, core_of, table_of}
 use Rattle.ec_model.specs.Boot.{booted}
 use Rattle.ec_model.specs.Answer.{Outcome, Answered, Restarts}
 use Rattle.ec_model.specs.Handle.{handled, asked, row_of, admitted_from}
-use Rattle.ec_model.specs.Step.{EventLeavesBy, after_outcome, stepped, stepped_by}
+use Rattle.ec_model.specs.WholeStep.{after_outcome, stepped, stepped_by}
+use Rattle.ec_model.specs.Step.{EventLeavesBy}
 use Rattle.ec_model.specs.Syncable.{settled}
 use Rattle.ec_model.proofs.ValidRows.{IsCoreValid}
 use Rattle.ec_model.proofs.ShortRows.{IsShort}

@@ -21,7 +21,9 @@ use Rattle.ec_model.specs.Table.{Table, Awake, Power, Off, On, Core, Valid, IsPo
 use Rattle.ec_model.specs.Answer.{Outcome, Answered, Restarts}
 use Rattle.ec_types.specs.Tables.{packet_limit}
 use Rattle.ec_model.specs.Handle.{handled}
-use Rattle.ec_model.specs.Step.{After, Work, Rest, Serve, EraseNext, HashNext, Boot, Stop, SetPin, serve_or, idle_work, work_on, after_outcome, after_unread, WorkLeaves, OffLeaves, EventLeavesBy, bus_after, lost_answer}
+use Rattle.ec_model.specs.Work.{After, Work, Rest, Serve, EraseNext, HashNext, Boot, Stop, SetPin, serve_or, idle_work, work_on, bus_after, lost_answer}
+use Rattle.ec_model.specs.WholeStep.{after_outcome}
+use Rattle.ec_model.specs.Step.{after_unread, WorkLeaves, OffLeaves, EventLeavesBy}
 use Rattle.ec_model.proofs.ValidEvents.{step-valid}
 use Rattle.host_runs.specs.Resting.{is_waiting, Rests, is_port_read, ends_resting}
 

@@ -4,7 +4,7 @@ use Rattle.ec_model.specs.declared.event.Access.TheVariants.{PortOut, PortIn}
 use Rattle.ec_model.specs.Bus.{BusState, OnLpc, OnI2c, OnSpi, is_busy, low_status}
 use Rattle.ec_model.specs.declared.event.Entry.{Entry}
 use Rattle.ec_model.specs.HostCalls.{HostCall, Did, Waited, calls_of}
-use Rattle.ec_model.specs.Send.{Heard, Reply, port_reads, port_writes}
+use Rattle.ec_model.specs.Heard.{Heard, Reply, port_reads, port_writes}
 use Rattle.ec_model.specs.Table.{Table, Core, table_of}
 use Rattle.ec_wire.specs.Quiet.{quiet_entry}
 

@@ -9,7 +9,8 @@ ghost use Rattle.ec_model.specs.Table.{Table, Awake, Core, Off, On, Valid, core_
 ghost use Rattle.ec_model.specs.Answer.{Answered};
 ghost use Rattle.ec_model.specs.Handle.{handled};
 ghost use Rattle.ec_model.specs.Run.{IsRun};
-ghost use Rattle.ec_model.specs.Send.{Heard, Silent, Send, SendsBy, QuietBy};
+ghost use Rattle.ec_model.specs.Heard.{Heard, Silent};
+ghost use Rattle.ec_model.specs.Send.{Send, SendsBy, QuietBy};
 ghost use Rattle.ec_model.specs.Syncable.{settled};
 ghost use Rattle.ec_model.specs.Upset.{IsUndisturbed};
 ghost use Rattle.ec_wire.specs.Calls.{is_wire_step};

@@ -3,7 +3,8 @@ use Rattle.std.proofs.Common.{◌≡◌, sym, ap, ◌∙◌, subst, ℕ, Bool, t
 use Rattle.ec_types.specs.declared.bus.BusKind.{BusKind}
 use Rattle.ec_types.specs.declared.bus.BusKind.TheVariants.{Lpc}
 use Rattle.ec_model.specs.HostCalls.{on_after}
-use Rattle.ec_model.specs.Send.{Send, Heard}
+use Rattle.ec_model.specs.Heard.{Heard}
+use Rattle.ec_model.specs.Send.{Send}
 use Rattle.ec_wire.specs.Calls.{WireView}
 use Rattle.host_framing.specs.Parts.{Sends}
 use Rattle.host_transport.specs.Once.{Ending, SentOnce, AskedOnce, AsksOnce, ended, heard_as}

@@ -5,7 +5,11 @@ use Rattle.ec_types.specs.declared.bus.BusKind.TheVariants.{Lpc, I2c, Spi}
 use Rattle.ec_model.specs.Packet.{is_response}
 use Rattle.ec_model.specs.Bus.{low_status}
 use Rattle.ec_model.specs.HostCalls.{HostCall, calls_of}
-use Rattle.ec_model.specs.Send.{Reply, Bad, Silent, heard_packet, heard_with, heard_if, heard_without, reads_on, is_i2c_length, spi_reads_on, last_byte, LpcWasBlocked, LpcWasUnserved, LpcWasServed, I2cWasUnstarted, I2cWasUnwritten, I2cWasUnread, I2cWasServed, SpiWasUnserved, SpiWasServed, SendsBy}
+use Rattle.ec_model.specs.Heard.{Reply, Bad, Silent, heard_packet, heard_with, heard_if, reads_on, last_byte}
+use Rattle.ec_model.specs.SendLpc.{LpcWasBlocked, LpcWasUnserved, LpcWasServed}
+use Rattle.ec_model.specs.SendI2c.{is_i2c_length, I2cWasUnstarted, I2cWasUnwritten, I2cWasUnread, I2cWasServed}
+use Rattle.ec_model.specs.SendSpi.{heard_without, spi_reads_on, SpiWasUnserved, SpiWasServed}
+use Rattle.ec_model.specs.Send.{SendsBy}
 use Rattle.ec_wire.specs.Calls.{WireView}
 use Rattle.host_framing.specs.Parts.{Sends}
 

@@ -4,7 +4,8 @@ use Rattle.ec_types.specs.declared.bus.BusKind.{BusKind}
 use Rattle.ec_model.specs.declared.event.Entry.{Entry}
 use Rattle.ec_model.specs.Packet.{ResponseView, response_view}
 use Rattle.ec_model.specs.HostCalls.{on_after}
-use Rattle.ec_model.specs.Send.{Send, Heard, Reply, Bad as HeardBad, Silent as HeardSilent}
+use Rattle.ec_model.specs.Heard.{Heard, Reply, Bad as HeardBad, Silent as HeardSilent}
+use Rattle.ec_model.specs.Send.{Send}
 use Rattle.ec_wire.specs.Calls.{WireView, Grows}
 
 -- how it ended: with a status and the reply's body, with a reply that is none, with no reply, or with no power

@@ -12,10 +12,10 @@ pub returns : goal.returns
 returns c = record {
   world = [];
   own = plain Tick 0;
-  middle = record { table = write_waits; armed = []; cut = Some (record { left = 5; torn = 0xA5 ∷ 0xA5 ∷ [] }) };
+  middle = record { table = write_waits; armed = []; cut = Some (record { left = 5; torn = 0xA5 ∷ 0xA5 ∷ [] }); faults = 0; cuts = 0 };
   parts = refl;
   events = refl;
-  call_is = (
+  own_is = (
     refl,
     refl,
     refl,
@@ -24,8 +24,11 @@ returns c = record {
       step = refl;
       is_begun = refl;
       falls = (omega arith, λ same. absurd (apart same));
+      cause = tt;
       cut_is = refl;
       armed_is = refl;
+      faults_later = omega arith;
+      cuts_later = omega arith;
     },
   );
 }

@@ -10,10 +10,10 @@ pub returns : goal.returns
 returns c = record {
   world = [];
   own = Step Tick 0 0 0 Cut;
-  middle = record { table = write_waits; armed = []; cut = Some (record { left = 2; torn = 0xA5 ∷ 0xA5 ∷ [] }) };
+  middle = record { table = write_waits; armed = []; cut = Some (record { left = 2; torn = 0xA5 ∷ 0xA5 ∷ [] }); faults = 0; cuts = 0 };
   parts = refl;
   events = refl;
-  call_is = (
+  own_is = (
     refl,
     refl,
     refl,
@@ -22,8 +22,11 @@ returns c = record {
       step = record { place = 1; flash = torn_in_the_second; stops = record { stopped = Program 0x8040 (replicate 64 2); is_there = refl; torn = record { same_length = refl; before = refl; after = refl } }; leaves = refl };
       is_begun = (1, refl, record { stopped = Program 0x8040 (replicate 64 2); is_there = refl; torn = record { same_length = refl; before = refl; after = refl } });
       falls = (omega arith, λ same. (refl, record { stopped = Program 0x8040 (replicate 64 2); is_there = refl; leaves = inl refl }));
+      cause = inl refl;
       cut_is = refl;
       armed_is = refl;
+      faults_later = omega arith;
+      cuts_later = omega arith;
     },
   );
 }

@@ -1,4 +1,4 @@
-use Rattle.std.proofs.Common.{refl, [], None}
+use Rattle.std.proofs.Common.{arith, refl, [], None}
 use Rattle.ec_types.specs.declared.bus.BusKind.TheVariants.{Lpc}
 use Rattle.ec_model.specs.declared.event.Access.TheVariants.{PortIn}
 use Rattle.ec_model.specs.declared.event.Event.TheVariants.{Access}
@@ -12,8 +12,8 @@ pub returns : goal.returns
 returns c = record {
   world = [];
   own = Step (Access (PortIn 0x204)) 0 0 0xFF Whole;
-  middle = record { table = powered e64 Lpc; cut = None; armed = [] };
+  middle = record { table = powered e64 Lpc; cut = None; armed = []; faults = 0; cuts = 0 };
   parts = refl;
   events = refl;
-  call_is = (refl, refl, refl, record { begun = 0; step = refl; is_begun = refl; falls = tt; cut_is = refl; armed_is = refl });
+  own_is = (refl, refl, refl, record { begun = 0; step = refl; is_begun = refl; falls = tt; cause = tt; cut_is = refl; armed_is = refl; faults_later = omega arith; cuts_later = omega arith });
 }

@@ -1,6 +1,6 @@
 use Rattle.std.proofs.Common.{refl, true, [], ◌∷◌, take, replicate, arith}
 use Rattle.ec_model.specs.HostCalls.{calls_of}
-use Rattle.ec_model.specs.Send.{SpiWasUnserved}
+use Rattle.ec_model.specs.SendSpi.{SpiWasUnserved}
 use Rattle.ec_examples.specs.Sends.{changed_spi}
 use Rattle.ec_examples.proofs.sends.changed_byte_over_spi.Goals as goal
 

@@ -1,6 +1,6 @@
 use Rattle.std.proofs.Common.{refl, [], ◌∷◌, take, replicate}
 use Rattle.ec_model.specs.HostCalls.{calls_of}
-use Rattle.ec_model.specs.Send.{LpcWasServed}
+use Rattle.ec_model.specs.SendLpc.{LpcWasServed}
 use Rattle.ec_examples.specs.Sends.{hello_lpc, hello_response}
 use Rattle.ec_examples.proofs.sends.hello_over_lpc.Goals as goal
 

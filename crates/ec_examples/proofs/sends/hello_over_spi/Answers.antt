@@ -1,6 +1,6 @@
 use Rattle.std.proofs.Common.{refl, [], ◌∷◌, take, replicate}
 use Rattle.ec_model.specs.HostCalls.{calls_of}
-use Rattle.ec_model.specs.Send.{SpiWasServed}
+use Rattle.ec_model.specs.SendSpi.{SpiWasServed}
 use Rattle.ec_examples.specs.Sends.{hello_spi, hello_response}
 use Rattle.ec_examples.proofs.sends.hello_over_spi.Goals as goal
 

@@ -1,6 +1,6 @@
 use Rattle.std.proofs.Common.{refl, [], take}
 use Rattle.ec_model.specs.HostCalls.{calls_of}
-use Rattle.ec_model.specs.Send.{I2cWasServed}
+use Rattle.ec_model.specs.SendI2c.{I2cWasServed}
 use Rattle.ec_examples.specs.Sends.{reset_i2c}
 use Rattle.ec_examples.proofs.sends.reset_over_i2c.Goals as goal
 

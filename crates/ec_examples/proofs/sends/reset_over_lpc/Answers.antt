@@ -1,6 +1,6 @@
 use Rattle.std.proofs.Common.{refl, [], ◌∷◌, take, replicate}
 use Rattle.ec_model.specs.HostCalls.{calls_of}
-use Rattle.ec_model.specs.Send.{LpcWasServed}
+use Rattle.ec_model.specs.SendLpc.{LpcWasServed}
 use Rattle.ec_examples.specs.Sends.{reset_lpc}
 use Rattle.ec_examples.proofs.sends.reset_over_lpc.Goals as goal
 

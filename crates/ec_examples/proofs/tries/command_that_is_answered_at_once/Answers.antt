@@ -1,5 +1,6 @@
 use Rattle.std.proofs.Common.{refl, [], ◌∷◌}
-use Rattle.ec_model.specs.Tries.{Status, Answered, Final}
+use Rattle.ec_model.specs.Asks.{Status}
+use Rattle.ec_model.specs.Tries.{Answered, Final}
 use Rattle.ec_examples.specs.Tries.{hello_tried, hello_asked}
 use Rattle.ec_examples.specs.Sends.{hello_response}
 use Rattle.ec_examples.proofs.TryLemmas.{asks}

@@ -1,5 +1,6 @@
 use Rattle.std.proofs.Common.{refl, []}
-use Rattle.ec_model.specs.Tries.{NoPower, Short, SaidNoPower, SaidShort, Final}
+use Rattle.ec_model.specs.Asks.{NoPower, Short}
+use Rattle.ec_model.specs.Tries.{SaidNoPower, SaidShort, Final}
 use Rattle.ec_examples.proofs.tries.commands_that_are_not_sent.Goals as goal
 
 pub returns-clause-off : goal.returns-clause-off

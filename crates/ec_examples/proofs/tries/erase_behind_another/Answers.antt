@@ -1,6 +1,8 @@
 use Rattle.std.proofs.Common.{refl, [], ◌++◌}
 use Rattle.ec_model.specs.HostCalls.{view_after}
-use Rattle.ec_model.specs.Tries.{Pending, Ends, Idle, Status, Answered, Final, AskedThen, resend_request as resend_asked}
+use Rattle.ec_model.specs.Asks.{Status}
+use Rattle.ec_model.specs.Polls.{Pending, Ends, Idle, AskedThen}
+use Rattle.ec_model.specs.Tries.{Answered, Final, resend_request as resend_asked}
 use Rattle.ec_examples.specs.Tries.{turn, pending, none_pending, with_room, erase_request, resend_request, erase_asked, erase_poll, busy, in_progress, success}
 use Rattle.ec_examples.specs.Entries.{lpc_exchange}
 use Rattle.ec_examples.proofs.TryLemmas.{asks, turn-taken}

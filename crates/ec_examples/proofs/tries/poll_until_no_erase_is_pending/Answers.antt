@@ -1,6 +1,6 @@
 use Rattle.std.proofs.Common.{refl, []}
 use Rattle.ec_model.specs.HostCalls.{view_after}
-use Rattle.ec_model.specs.Tries.{Pending, Ends, Idle}
+use Rattle.ec_model.specs.Polls.{Pending, Ends, Idle}
 use Rattle.ec_examples.specs.Tries.{turn, pending, none_pending, with_room}
 use Rattle.ec_examples.proofs.TryLemmas.{turn-taken}
 use Rattle.ec_examples.proofs.tries.poll_until_no_erase_is_pending.Goals as goal

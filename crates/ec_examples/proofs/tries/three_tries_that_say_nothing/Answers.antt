@@ -1,7 +1,8 @@
 use Rattle.std.proofs.Common.{refl, true, false, [], ◌++◌}
-use Rattle.ec_model.specs.Tries.{Status, NoReply, Again}
+use Rattle.ec_model.specs.Asks.{Status, NoReply}
+use Rattle.ec_model.specs.Tries.{Again}
 use Rattle.ec_examples.specs.Tries.{hello_asked, refused, success}
-use Rattle.ec_model.specs.Send.{Bad}
+use Rattle.ec_model.specs.Heard.{Bad}
 use Rattle.ec_examples.specs.Sends.{hello_request, changed_lpc}
 use Rattle.ec_examples.specs.Entries.{lpc_exchange}
 use Rattle.ec_examples.proofs.Exchanges.{changed-sent}
