@@ -1,95 +1,101 @@
--- What each exit of a run says of the flash, the script, the printed bytes and the journal.
-use Rattle.std.specs.Prelude.{◌≡◌, ℕ, true, List, [], ◌∷◌, map, Option, IfSome, IsTrue, IsFalse}
-use Rattle.ec_types.specs.declared.why.Why.TheVariants as why
+-- What each exit of a run says of the words, the flash, the script, the printed bytes and the journal.
+use Rattle.std.specs.Prelude.{◌≡◌, ◌⊎◌, ℕ, Bool, true, List, [], ◌∷◌, map, Option, IsTrue, IsFalse}
+use Rattle.ec_types.specs.Tables.{packet_limit}
 use Rattle.ec_types.specs.declared.bus.BusKind.TheVariants.{Lpc}
+use Rattle.ec_types.specs.declared.reset.ResetCause.TheVariants.{PowerOn}
 use Rattle.flash_dev.specs.Told.{Changes}
 use Rattle.flash_dev.specs.Counts.{Rose}
 use Rattle.flash_dev.specs.Device.{DeviceView}
 use Rattle.ec_model.specs.Ranges.{is_flash_size}
-use Rattle.ec_model.specs.Table.{Table}
+use Rattle.ec_model.specs.Packet.{response_packet}
+use Rattle.ec_model.specs.Boot.{booted}
+use Rattle.ec_model.specs.Table.{Table, Core}
+use Rattle.ec_model.specs.Answer.{Answered}
+use Rattle.ec_model.specs.Handle.{handled}
 use Rattle.ec_model.specs.Run.{IsRun, opening}
 use Rattle.ec_model.specs.declared.event.Entry.{Entry}
-use Rattle.ec_model.specs.declared.event.Entry.TheVariants.{Step, Mark}
+use Rattle.ec_model.specs.declared.event.Entry.TheVariants.{Step}
 use Rattle.ec_model.specs.declared.event.Event.TheVariants.{Power}
 use Rattle.ec_model.specs.declared.event.Hurt.{Hurt}
 use Rattle.ec_model.specs.declared.event.Hurt.TheVariants.{Whole}
 use Rattle.ec_wire.specs.Quiet.{quiet_entry}
 use Rattle.host_runs.specs.Exchange.{lpc_exchange}
-use Rattle.host_transport.specs.Once.{Ending, AskedOnce}
+use Rattle.host_transport.specs.Once.{Ending, Said}
+use Rattle.ectool_lines.specs.Requests.{Asked, packet_of}
+use Rattle.ectool_lines.specs.Running.{Appends}
+use Rattle.ectool_lines.specs.Asking.{Hears}
 use Rattle.ecbench.specs.declared.run.Exit.{Exit}
-use Rattle.ecbench.specs.declared.run.Exit.TheVariants.{Done, BadWords, BadFlash, BadLine, SourceFault, SinkFault, NoMemory}
+use Rattle.ecbench.specs.declared.run.Exit.TheVariants.{Done, BadWords, BadFlash, BadLine, SourceFault, SinkFault, NoMemory, ScriptTooLong}
 use Rattle.ecbench.specs.Words.{are_words}
-use Rattle.ecbench.specs.Reading.{Appends, AppendsFront}
-use Rattle.ecbench.specs.Texts.{printed, answer_text}
-use Rattle.ecbench.specs.Hello.{IsHello, hello_request, hello_response, hello_text}
+use Rattle.ecbench.specs.Scripts.{PlaysUpTo}
 
 -- power comes; a read of the flash may fail in the boot
 abbrev pub power_on : Hurt → Entry
 power_on hurt = Step (Power true) 0 0 0 hurt
-
--- nothing happened behind the power-on
-pub record OnlyPowered (entries : List Entry) : Type 0 where
-  pub boot : Hurt
-  pub entries_are : entries ≡ power_on boot ∷ []
-
--- line 1 was carried out behind the power-on: its mark, its request, sent once, and its text by how that ended
-pub record Carried (entries : List Entry) (text : List ℕ) : Type 0 where
-  pub boot : Hurt
-  pub own : List Entry
-  pub ending : Ending
-  pub entries_are : entries ≡ power_on boot ∷ Mark 1 ∷ own
-  pub asked : AskedOnce true Lpc hello_request 4 own ending
-  pub text_is : text ≡ printed (answer_text hello_text ending)
-
--- the whole text of the line was printed
-pub record PrintsLine (entries : List Entry) (old new : Option (List ℕ)) : Type 0 where
-  pub text : List ℕ
-  pub carried : Carried entries text
-  pub printed : Appends text old new
-
--- the first bytes of the line's text were printed, but not all
-pub record PrintsFront (entries : List Entry) (old new : Option (List ℕ)) : Type 0 where
-  pub text : List ℕ
-  pub carried : Carried entries text
-  pub printed : AppendsFront text old new
 
 -- the words are the command's, and the flash has a size that a controller's flash may have
 pub record IsStarted (words : List (List ℕ)) (size : ℕ) : Type 0 where
   pub worded : IsTrue (are_words words)
   pub sized : IsTrue (is_flash_size size)
 
--- what an exit says: of the words and the flash's size, of the script before and what is left of it, of the printed bytes
--- before and after, and of the journal
-abbrev pub Ends : Exit → List (List ℕ) → ℕ → Option (List ℕ) → Option (List ℕ) → Option (List ℕ) → Option (List ℕ) → List Entry → Type 0
-Ends Done words size left rest old new entries =
-    IsStarted words size × IfSome left IsHello × IfSome rest (λ bytes. bytes ≡ []) × PrintsLine entries old new
-Ends BadWords words size left rest old new entries =
-    IsFalse (are_words words) × (rest ≡ left) × Appends [] old new × (entries ≡ [])
-Ends BadFlash words size left rest old new entries =
-    IsTrue (are_words words) × IsFalse (is_flash_size size) × (rest ≡ left) × Appends [] old new × (entries ≡ [])
-Ends (BadLine line reason) words size left rest old new entries =
-    IsStarted words size × (line ≡ 1) × (reason ≡ why.Word) × IfSome left (λ script. IsHello script → ⊥)
-    × Appends [] old new × OnlyPowered entries
-Ends SourceFault words size left rest old new entries =
-    IsStarted words size × Appends [] old new × OnlyPowered entries
-Ends SinkFault words size left rest old new entries =
-    IsStarted words size × IfSome left IsHello × PrintsFront entries old new
-Ends NoMemory words size left rest old new entries =
-    IsStarted words size × (rest ≡ left) × Appends [] old new × (entries ≡ [])
+-- power came, in this state the controller was then, and the script was carried out as far as the exit says
+pub record Begins {State : Type 0} (starts : Hurt → State → Type 0) (asks : State → Asked → List Entry → Ending → State → Type 0)
+    (exit : Exit) (left rest before after : Option (List ℕ)) (entries : List Entry) : Type 0 where
+  pub boot : Hurt
+  pub opened : State
+  pub own : List Entry
+  pub starts_so : starts boot opened
+  pub entries_are : entries ≡ power_on boot ∷ own
+  pub plays : PlaysUpTo asks opened exit own left rest before after
+
+-- nothing happened at all
+pub record NothingHappened (left rest before after : Option (List ℕ)) (entries : List Entry) : Type 0 where
+  pub unread : rest ≡ left
+  pub unprinted : Appends [] before after
+  pub no_entry : entries ≡ []
+
+-- what an exit says: of the words and the flash's size, of what the source had and has left, of what was printed before and
+-- is now, and of the journal
+abbrev pub Ends : {State : Type 0} → (Hurt → State → Type 0) → (State → Asked → List Entry → Ending → State → Type 0) →
+    Exit → List (List ℕ) → (size : ℕ) → (left rest before after : Option (List ℕ)) → List Entry → Type 0
+Ends starts asks BadWords words size left rest before after entries =
+    IsFalse (are_words words) × NothingHappened left rest before after entries
+Ends starts asks BadFlash words size left rest before after entries =
+    IsTrue (are_words words) × IsFalse (is_flash_size size) × NothingHappened left rest before after entries
+Ends starts asks NoMemory words size left rest before after entries =
+    IsStarted words size
+    × (NothingHappened left rest before after entries ⊎ Begins starts asks NoMemory left rest before after entries)
+Ends starts asks exit words size left rest before after entries =
+    IsStarted words size × Begins starts asks exit left rest before after entries
+
+-- as the host sees it: the controller is on at first
+abbrev pub StartsOn : Hurt → Bool → Type 0
+StartsOn boot on = on ≡ true
+
+-- what each exit says, as the host sees it
+abbrev pub EndsAsSeen : Exit → List (List ℕ) → (size : ℕ) → (left rest before after : Option (List ℕ)) → List Entry → Type 0
+EndsAsSeen = Ends StartsOn (Hears Lpc)
+
+-- where nothing disturbs it: the controller has booted from this flash, and the boot read it
+abbrev pub StartsBooted : List ℕ → Hurt → Core → Type 0
+StartsBooted flash boot core = (boot ≡ Whole) × (core ≡ booted flash true PowerOn false)
+
+-- where nothing disturbs it: a command is handled, and its exchange on the bus brings the response, which the host hears
+pub record Answers (old : Core) (asked : Asked) (entries : List Entry) (ending : Ending) (new : Core) : Type 0 where
+  pub status : ℕ
+  pub body : List ℕ
+  pub handled_is : handled old (packet_limit Lpc) (packet_of asked) ≡ Answered new status body
+  pub entries_are : entries ≡ map quiet_entry (lpc_exchange 0 (packet_of asked) (response_packet status body))
+  pub ending_is : ending ≡ Said status body
+
+-- what each exit says, where nothing fails in a flash with these bytes
+abbrev pub EndsUndisturbed : List ℕ → Exit → List (List ℕ) → (size : ℕ) → (left rest before after : Option (List ℕ)) → List Entry → Type 0
+EndsUndisturbed flash = Ends (StartsBooted flash) Answers
 
 -- the flash counted neither a fault nor a cut
 pub record NothingFailed (old new : DeviceView) : Type 0 where
   pub no_fault : ¬ Rose old.faults new.faults
   pub no_cut : ¬ Rose old.cuts new.cuts
-
--- the whole journal of the line, where nothing failed: the power-on, the mark, and 28 accesses with one tick among them
-abbrev pub hello_journal : List Entry
-hello_journal = power_on Whole ∷ Mark 1 ∷ map quiet_entry (lpc_exchange 0 hello_request hello_response)
-
--- a script that was carried out where nothing failed, and the flash tells its bytes
-pub record GreetsWell (entries : List Entry) (old new : Option (List ℕ)) : Type 0 where
-  pub journal : entries ≡ hello_journal
-  pub printed : Appends (printed hello_text) old new
 
 -- the journal is a run of the controller, from its flash as it came to the flash as it is handed back
 abbrev pub RunsTo : List Entry → Option (List ℕ) → Option (List ℕ) → Type 0

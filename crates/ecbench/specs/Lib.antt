@@ -1,7 +1,6 @@
 pub mod Words
-pub mod Reading
-pub mod Texts
-pub mod Hello
+pub mod Lines
+pub mod Scripts
 pub mod Endings
 pub mod Serving
 pub mod Statuses

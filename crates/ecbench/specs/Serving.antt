@@ -1,16 +1,22 @@
 -- What the parts of a run do, seen on the wire.
-use Rattle.std.specs.Prelude.{◌≡◌, ◌<◌, ◌≤◌, ℕ, true, List, [], length, Option, IfSome}
-use Rattle.ec_types.specs.declared.why.Why.TheVariants as why
+use Rattle.std.specs.Prelude.{◌≡◌, ◌⊎◌, ℕ, true, false, List, [], ◌∷◌, Option, IsTrue, IsFalse, Ok, Err}
+use Rattle.std.specs.List.{list_any}
+use Rattle.ec_types.specs.declared.bus.BusKind.TheVariants.{Lpc}
+use Rattle.ec_model.specs.declared.event.Entry.{Entry}
 use Rattle.ec_model.specs.declared.event.Entry.TheVariants.{Mark}
 use Rattle.ec_model.specs.declared.event.Hurt.{Hurt}
+use Rattle.ec_model.specs.Upset.{is_world, is_changed}
 use Rattle.ec_wire.specs.Calls.{WireView, with_spare}
-use Rattle.bench_wire.specs.Adding.{Adds}
-use Rattle.host_transport.specs.Once.{Ending, AsksOnce}
+use Rattle.bench_wire.specs.Adding.{Adds, Extends}
+use Rattle.script_words.specs.Lines.{does_nothing}
+use Rattle.ectool_lines.specs.declared.tool.Tool.{Tool}
+use Rattle.ectool_lines.specs.Tools.{tool_of}
+use Rattle.ectool_lines.specs.Running.{Appends, AppendsFront, Carries}
+use Rattle.ectool_lines.specs.Asking.{Hears}
 use Rattle.ecbench.specs.declared.run.Exit.{Exit}
-use Rattle.ecbench.specs.declared.run.Exit.TheVariants.{Done, BadLine, SourceFault, SinkFault, NoMemory}
-use Rattle.ecbench.specs.Reading.{Appends, AppendsFront, Takes}
-use Rattle.ecbench.specs.Texts.{printed, answer_text}
-use Rattle.ecbench.specs.Hello.{IsHello, hello_request, hello_text}
+use Rattle.ecbench.specs.declared.run.Exit.TheVariants.{Done, BadLine, SinkFault, NoMemory}
+use Rattle.ecbench.specs.Lines.{IsFaulty}
+use Rattle.ecbench.specs.Scripts.{PlaysUpTo}
 use Rattle.ecbench.specs.Endings.{power_on}
 
 -- power came
@@ -19,54 +25,66 @@ pub record PowersOn (old new : WireView) : Type 0 where
   pub adds : Adds (power_on boot) old new
   pub on : new.on ≡ true
 
--- line 1 was marked, and its request sent once; this is its text
-pub record CarriesLine (text : List ℕ) (old new : WireView) : Type 0 where
+-- room was made, and a line marked
+pub record MarksLine (number : ℕ) (old new : WireView) : Type 0 where
+  pub spare : ℕ
+  pub adds : Adds (Mark number) (with_spare spare old) new
+
+-- a line was marked and carried out; this is its text
+pub record CarriesLine (number : ℕ) (line text : List ℕ) (old new : WireView) : Type 0 where
+  pub does_something : IsFalse (does_nothing line)
+  pub tool : Tool
+  pub says : tool_of line ≡ Ok tool
   pub marked : WireView
-  pub mark : Adds (Mark 1) old marked
-  pub ending : Ending
-  pub asks : AsksOnce hello_request 4 ending marked new
-  pub text_is : text ≡ printed (answer_text hello_text ending)
+  pub marks : MarksLine number old marked
+  pub carries : Carries tool text marked new
 
--- a line was carried out, and all of its text printed
-pub record CarriesWhole (old new : WireView) (before after : Option (List ℕ)) : Type 0 where
-  pub text : List ℕ
-  pub line : CarriesLine text old new
-  pub printed : Appends text before after
+-- a line that does nothing was passed over
+pub record PassesLine (line : List ℕ) (old new : WireView) (before after : Option (List ℕ)) : Type 0 where
+  pub idle : IsTrue (does_nothing line)
+  pub same : new ≡ old
+  pub unprinted : Appends [] before after
 
--- a line was carried out, and the first bytes of its text printed, but not all
-pub record CarriesFront (old new : WireView) (before after : Option (List ℕ)) : Type 0 where
-  pub text : List ℕ
-  pub line : CarriesLine text old new
-  pub printed : AppendsFront text before after
+-- what was done with a line: carried out and printed, or passed over; refused; carried out and printed in part; or marked at
+-- most, since memory was refused
+abbrev pub ServesLine : Exit → ℕ → List ℕ → WireView → WireView → (before after : Option (List ℕ)) → Type 0
+ServesLine Done number line old new before after =
+    PassesLine line old new before after ⊎ ((text : List ℕ) × CarriesLine number line text old new × Appends text before after)
+ServesLine (BadLine at reason) number line old new before after =
+    (at ≡ number) × IsFaulty line reason × (new ≡ old) × Appends [] before after
+ServesLine SinkFault number line old new before after =
+    (text : List ℕ) × CarriesLine number line text old new × AppendsFront text before after
+ServesLine NoMemory number line old new before after =
+    ((new ≡ old) ⊎ MarksLine number old new) × Appends [] before after
+ServesLine other number line old new before after = ⊥
 
--- a script was carried out, or refused
-abbrev pub CarriesOut : Exit → List ℕ → WireView → WireView → Option (List ℕ) → Option (List ℕ) → Type 0
-CarriesOut Done script old new before after = IsHello script × CarriesWhole old new before after
-CarriesOut (BadLine line reason) script old new before after =
-    (line ≡ 1) × (reason ≡ why.Word) × (IsHello script → ⊥) × (new ≡ old) × Appends [] before after
-CarriesOut SinkFault script old new before after = IsHello script × CarriesFront old new before after
-CarriesOut other script old new before after = ⊥
+-- some entries were added, none of them an event of the world's or with a changed byte
+pub record Behaves (added : List Entry) (old new : WireView) : Type 0 where
+  pub extends : Extends added old new
+  pub no_event : IsFalse (list_any is_world added)
+  pub no_byte : IsFalse (list_any is_changed added)
 
--- a script was taken from a source, and carried out or refused
-pub record ServesScript (exit : Exit) (old new : WireView) (left rest before after : Option (List ℕ)) : Type 0 where
-  pub script : List ℕ
-  pub taken : Takes script left rest
-  pub short : length script ≤ 7
-  pub whole : length script < 7 → IfSome rest (λ bytes. bytes ≡ [])
-  pub carried : CarriesOut exit script old new before after
-
--- the same, or the source failed
-abbrev pub ServesBy : Exit → WireView → WireView → Option (List ℕ) → Option (List ℕ) → Option (List ℕ) → Option (List ℕ) → Type 0
-ServesBy SourceFault old new left rest before after = (new ≡ old) × Appends [] before after
-ServesBy exit old new left rest before after = ServesScript exit old new left rest before after
-
--- power came, and then a script was served
+-- a script was served as far as the exit says
 pub record Serves (exit : Exit) (old new : WireView) (left rest before after : Option (List ℕ)) : Type 0 where
-  pub powered : WireView
-  pub powers : PowersOn old powered
-  pub served : ServesBy exit powered new left rest before after
+  pub own : List Entry
+  pub behaves : Behaves own old new
+  pub plays : PlaysUpTo (Hears Lpc) old.on exit own left rest before after
 
--- room was made, and then all was served; or memory was refused, and nothing happened
-abbrev pub Drives : Exit → WireView → WireView → Option (List ℕ) → Option (List ℕ) → Option (List ℕ) → Option (List ℕ) → Type 0
-Drives NoMemory old new left rest before after = (new ≡ old) × (rest ≡ left) × Appends [] before after
-Drives exit old new left rest before after = (spare : ℕ) × Serves exit (with_spare spare old) new left rest before after
+-- nothing was done
+pub record DoesNothing (old new : WireView) (left rest before after : Option (List ℕ)) : Type 0 where
+  pub same : new ≡ old
+  pub unread : rest ≡ left
+  pub unprinted : Appends [] before after
+
+-- room was made, power came, and a script was served
+pub record PowersAndServes (exit : Exit) (old new : WireView) (left rest before after : Option (List ℕ)) : Type 0 where
+  pub spare : ℕ
+  pub powered : WireView
+  pub powers : PowersOn (with_spare spare old) powered
+  pub serves : Serves exit powered new left rest before after
+
+-- the whole of it, or nothing, since memory was refused
+abbrev pub Drives : Exit → WireView → WireView → (left rest before after : Option (List ℕ)) → Type 0
+Drives NoMemory old new left rest before after =
+    DoesNothing old new left rest before after ⊎ PowersAndServes NoMemory old new left rest before after
+Drives exit old new left rest before after = PowersAndServes exit old new left rest before after

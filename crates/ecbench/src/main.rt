@@ -1,12 +1,10 @@
 //! The bench: a Chromebook's embedded controller and its host in one process, driven by a script on standard input.
 #![tactic(auto)]
 
-mod hello;
+mod serving;
 mod run;
-mod script;
 #[cfg(test)]
 mod tests;
-mod text;
 mod word;
 
 use bench_io::{FileFlash, StdSink, StdSource};

@@ -1,1 +1,3 @@
 pub mod SendLemmas
+pub mod WantLemmas
+pub mod AnswerLemmas

@@ -23,7 +23,7 @@ use Rattle.ectool_lines.specs.declared.tool.Tool.TheVariants.{Hello, FlashRead, 
 use Rattle.ectool_lines.specs.Tools.{IsInRange}
 use Rattle.ectool_lines.specs.Requests.{Asked, packet_of, first_of, parts_of, count_of, command_of, commands_of}
 use Rattle.ectool_lines.specs.Texts.{Succeeded, Stopped, printed, replies_text, reply_text, closing_text, refusal_text}
-use Rattle.ectool_lines.specs.Asking.{AllSucceed, IsSuccess, StopsAt, Hears, CarriesTool, is_mark}
+use Rattle.ectool_lines.specs.Asking.{AllSucceed, IsSuccess, StopsAt, Hears, CarriesTool}
 
 -- one more success behind others
 pub succeed-more : {State : Type 0} (asks : State → Asked → List Entry → Ending → State → Type 0) (old : State) (commands : List Asked) (entries : List Entry) (bodies : List (List ℕ)) (middle : State) (asked : Asked) (last : List Entry) (body : List ℕ) (new : State) →
@@ -47,17 +47,6 @@ pub replies-more : (tool : Tool) (bodies : List (List ℕ)) (body : List ℕ) �
 replies-more tool [] body = append-nil (reply_text tool body)
 replies-more tool (first ∷ bodies) body =
     ap (λ (rest : List ℕ). reply_text tool first ++ rest) (replies-more tool bodies body) ∙ sym (append_assoc (reply_text tool first) (replies_text tool bodies) (reply_text tool body))
-
--- the second of two tests that hold
-later-true : (a b : Bool) → (a && b) ≡ true → b ≡ true
-later-true true b same = same
-later-true false b same = cc
-
--- no entry that a wire adds begins a line
-pub unmarked : (added : List Entry) → list_all is_wire_step added ≡ true → list_any is_mark added ≡ false
-unmarked [] steps = refl
-unmarked (Step event answer meant seen hurt ∷ added) steps = unmarked added (later-true (is_wire_step (Step event answer meant seen hurt)) (list_all is_wire_step added) steps)
-unmarked (Mark line ∷ added) steps = cc
 
 -- what follows the first ones, and the one behind them
 abbrev pub Behind : {T : Type 0} → (ℕ → T) → ℕ → ℕ → Type 0
@@ -98,7 +87,7 @@ pub heard-once : (asked : Asked) (want : ℕ) (ending : Ending) (old new : WireV
 heard-once asked want ending old new same asks =
     record {
       once = subst (λ (wanted : ℕ). AskedOnce old.on old.bus (packet_of asked) wanted asks.added ending) same asks.asked;
-      unmarked = unmarked asks.added asks.grows.steps;
+      steps = asks.grows.steps;
       on_is = asks.grows.on;
     }
 

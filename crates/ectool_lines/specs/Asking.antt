@@ -3,14 +3,13 @@
 -- How one command goes is a parameter: a relation of a state before it, the command, its entries, its ending and the state
 -- behind it. So the same words tell what the host sees of any controller (the state is whether it is on), and what a
 -- controller that nothing disturbs answers (the state is all that it holds).
-use Rattle.std.specs.Prelude.{◌≡◌, ℕ, Bool, true, false, List, [], ◌∷◌, ◌++◌, IsFalse}
-use Rattle.std.specs.List.{list_any}
+use Rattle.std.specs.Prelude.{◌≡◌, ℕ, Bool, List, [], ◌∷◌, ◌++◌, IsTrue}
+use Rattle.std.specs.List.{list_all}
 use Rattle.ec_types.specs.Tables.{packet_limit}
 use Rattle.ec_types.specs.declared.bus.BusKind.{BusKind}
 use Rattle.ec_model.specs.declared.event.Entry.{Entry}
-use Rattle.ec_model.specs.declared.event.Entry.TheVariants.{Step, Mark}
 use Rattle.ec_model.specs.HostCalls.{on_after}
-use Rattle.ec_wire.specs.Calls.{WireView, Grows}
+use Rattle.ec_wire.specs.Calls.{WireView, Grows, is_wire_step}
 use Rattle.host_transport.specs.Once.{Ending, Said, AskedOnce}
 use Rattle.ectool_lines.specs.declared.tool.Tool.{Tool}
 use Rattle.ectool_lines.specs.Requests.{Asked, packet_of, commands_of}
@@ -51,15 +50,11 @@ abbrev pub AsksEach : {State : Type 0} → (State → Asked → List Entry → E
 AsksEach asks old commands entries (Succeeded bodies) new = AllSucceed asks old commands entries bodies new
 AsksEach asks old commands entries (Stopped ending) new = StopsAt asks old commands entries ending new
 
--- whether an entry marks the beginning of a line
-abbrev pub is_mark : Entry → Bool
-is_mark (Step event answer meant seen hurt) = false
-is_mark (Mark line) = true
-
--- what the host sees of one command: it is sent once where the controller is on, and no line begins in it
+-- what the host sees of one command: it is sent once where the controller is on, and each entry is one that a call of a
+-- wire adds
 pub record Hears (bus : BusKind) (on : Bool) (asked : Asked) (entries : List Entry) (ending : Ending) (after : Bool) : Type 0 where
   pub once : AskedOnce on bus (packet_of asked) asked.want entries ending
-  pub unmarked : IsFalse (list_any is_mark entries)
+  pub steps : IsTrue (list_all is_wire_step entries)
   pub on_is : after ≡ on_after entries on
 
 -- a line was carried out on a wire: its commands were sent, and this is its text

@@ -4,3 +4,4 @@ pub mod Texts
 pub mod Asking
 pub mod Sending
 pub mod Running
+pub mod Answering

@@ -1,0 +1,108 @@
+// A script, served line by line.
+ghost use Rattle.std.specs.Prelude.{◌≡◌, ◌≤◌, false};
+ghost use Rattle.flash_dev.specs.Counts.{Rose};
+ghost use Rattle.ec_types.specs.declared.bus.BusKind.TheVariants.{Lpc as LpcKind};
+ghost use Rattle.bench_wire.specs.BenchView.{wire_view};
+ghost use Rattle.ecbench.specs.Serving.{Drives, Serves, PowersOn, ServesLine};
+
+use crate::run::Exit;
+use bench_io::{Sink, Source};
+use bench_wire::Bench;
+use bus_lpc::Lpc;
+use ec_model::WorldEvent;
+use ec_types::Why;
+use ec_wire::Wire;
+use ectool_lines::{ToolErr, parse, run};
+use flash_dev::{Failed, FlashDev};
+use line_reader::{LineReader, Next};
+use script_words::is_idle;
+
+/// The most lines that a script can have: each but the last takes a byte, of which there are at most 16,777,216.
+const MOST_LINES: u32 = 16_777_217;
+
+/// Makes room in the journal for the power-on, and serves the script.
+pub fn drive<F: FlashDev, S: Source, K: Sink>(
+    bench: &mut Bench<Lpc, F>,
+    source: &mut S,
+    sink: &mut K,
+) -> Exit
+    requires { bench.old.controller.on ≡ false }
+    ensures drives { Drives result (wire_view LpcKind bench.old) (wire_view LpcKind bench.new) (S.left source.old) (S.left source.new) (K.written sink.old) (K.written sink.new) }
+    ensures source_fault { result ≡ Exit.SourceFault → Rose (S.faults source.old) (S.faults source.new) }
+    ensures sink_fault { result ≡ Exit.SinkFault → Rose (K.faults sink.old) (K.faults sink.new) }
+{
+    match bench.reserve(1) {
+        Ok(()) => {}
+        Err(_) => return Exit::NoMemory,
+    }
+    power_on(bench);
+    serve(bench, source, sink)
+}
+
+// Powers the controller on.
+fn power_on<F: FlashDev>(bench: &mut Bench<Lpc, F>)
+    requires room { 1 ≤ bench.old.spare }
+    requires off { bench.old.controller.on ≡ false }
+    ensures { PowersOn (wire_view LpcKind bench.old) (wire_view LpcKind bench.new) }
+{
+    bench.world(WorldEvent::Power { on: true });
+}
+
+// Reads the script line by line, and carries out each line before the next one is read.
+fn serve<F: FlashDev, S: Source, K: Sink>(
+    bench: &mut Bench<Lpc, F>,
+    source: &mut S,
+    sink: &mut K,
+) -> Exit
+    ensures serves { Serves result (wire_view LpcKind bench.old) (wire_view LpcKind bench.new) (S.left source.old) (S.left source.new) (K.written sink.old) (K.written sink.new) }
+    ensures source_fault { result ≡ Exit.SourceFault → Rose (S.faults source.old) (S.faults source.new) }
+    ensures sink_fault { result ≡ Exit.SinkFault → Rose (K.faults sink.old) (K.faults sink.new) }
+{
+    let mut reader = LineReader::new();
+    for number in 1..=MOST_LINES {
+        let next = match reader.next(source) {
+            Ok(next) => next,
+            Err(Failed) => return Exit::SourceFault,
+        };
+        match next {
+            Next::Line | Next::Last => {}
+            Next::End => return Exit::Done,
+            Next::TooLong => return too_long(number),
+            Next::Full => return Exit::ScriptTooLong,
+        }
+        let exit = serve_line(bench, number, reader.line(), sink);
+        if exit != Exit::Done || next == Next::Last {
+            return exit;
+        }
+    }
+    unreachable!()
+}
+
+// Carries out a line, passes over one that does nothing, or refuses one that is outside the grammar.
+fn serve_line<F: FlashDev, K: Sink>(
+    bench: &mut Bench<Lpc, F>,
+    number: u32,
+    line: &[u8],
+    sink: &mut K,
+) -> Exit
+    ensures serves { ServesLine result number line.now (wire_view LpcKind bench.old) (wire_view LpcKind bench.new) (K.written sink.old) (K.written sink.new) }
+    ensures sink_fault { result ≡ Exit.SinkFault → Rose (K.faults sink.old) (K.faults sink.new) }
+{
+    if is_idle(line) {
+        return Exit::Done;
+    }
+    let tool = match parse(line) {
+        Ok(tool) => tool,
+        Err(why) => return Exit::BadLine { line: number, why },
+    };
+    match bench.reserve(1) {
+        Ok(()) => {}
+        Err(_) => return Exit::NoMemory,
+    }
+    bench.mark(number);
+    match run(bench, &tool, sink) {
+        Ok(()) => Exit::Done,
+        Err(ToolErr::Sink) => Exit::SinkFault,
+        Err(ToolErr::NoMemory) => Exit::NoMemory,
+    }
+}

@@ -1,0 +1,99 @@
+-- A success of a line's command has as many bytes as the line wants.
+use Rattle.std.proofs.Common.{◌≡◌, refl, sym, ap, ◌∙◌, subst, ℕ, ◌+◌, ◌-◌, ◌*◌, ◌%◌, ◌^◌, ◌<◌, ◌≤◌, ◌==◌, Bool, true, false, not, ◌&&◌, ◌||◌, nat_lt, if◌then◌else◌, List, [], length, take, drop, min, Option, Some, None, Result, Ok, Err, arith, length-take}
+use Rattle.std.specs.Prelude.{is_some}
+use Rattle.std.proofs.lemmas.List.{length-drop}
+use Rattle.std.proofs.lemmas.Bool.Decides.{leb_tells}
+use Rattle.ec_types.specs.LittleEndian.{u32_at}
+use Rattle.ec_model.specs.Bodies.{hello_ask, flash_read_ask, flash_write_ask}
+use Rattle.ec_model.specs.Packet.{RequestView, request_packet, framing}
+use Rattle.ec_model.specs.Ranges.{Range, part, ends_within}
+use Rattle.ec_model.specs.Commands.{is_write_spelled}
+use Rattle.ec_model.specs.Table.{Core, is_blocked}
+use Rattle.ec_model.specs.Answer.{Outcome, Answered, Restarts, done}
+use Rattle.ec_model.specs.FlashRows.{unless_refused, asked_range, read_refusal, flash_read_row, write_refusal, flash_write_row, written, is_whole_units}
+use Rattle.ec_model.specs.Handle.{Admitted, row_of, admitted_from, handled}
+use Rattle.ec_model.proofs.GuardSteps.{if_cases}
+use Rattle.host_runs.proofs.Spelled.{framing-spelled}
+use Rattle.ectool_lines.specs.declared.tool.Tool.{Tool}
+use Rattle.ectool_lines.specs.declared.tool.Tool.TheVariants.{Hello, FlashRead, FlashWrite}
+use Rattle.ectool_lines.specs.Requests.{Asked, packet_of, command_of, hello_command, read_command, write_command}
+use Rattle.ectool_lines.proofs.SendLemmas.{command-short}
+
+-- an answer with a status of 16 bits, that has so many bytes where it is a success
+abbrev pub HasWanted : ℕ → Outcome → Type 0
+HasWanted want (Answered after status body) = (status < 65536) × (status ≡ 0 → length body ≡ want)
+HasWanted want Restarts = Unit {0}
+
+-- a refusal is no success
+refusal-wanted : (want : ℕ) (core : Core) (status : ℕ) → 0 < status → status < 65536 → HasWanted want (Answered core status [])
+refusal-wanted want core status some small = (small, λ none. absurd (omega (arith, some, none)))
+
+-- the bytes of a range that lies in the flash
+part-length : (range : Range) (flash : List ℕ) → not (ends_within (length flash) range) ≡ false → length (part range flash) ≡ range.size
+part-length range flash within =
+    let order = leb_tells (range.at + range.size) (length flash) in
+    let dropped = length-drop range.at flash in
+    let taken = length-take range.size (drop range.at flash) in
+    grind (arith, order, dropped, taken)
+
+-- the size that a read's body names
+asked-size : (at size : ℕ) → size < 2 ^ 32 → (asked_range (flash_read_ask at size)).size ≡ size
+asked-size at size small = omega (arith, small)
+
+-- FLASH_READ
+read-row-wanted : (core : Core) (at size : ℕ) → size < 2 ^ 32 → HasWanted size (flash_read_row core 256 (flash_read_ask at size))
+read-row-wanted core at size small =
+    let body = flash_read_ask at size in
+    let refusal : Option ℕ → Type 0 = λ refused. HasWanted size (unless_refused refused core (Answered core 0 (part (asked_range body) core.flash))) in
+    if_cases refusal (not (ends_within (length core.flash) (asked_range body))) (Some 3) (if nat_lt (256 - 8) (asked_range body).size then Some 11 else None)
+    (λ outside. refusal-wanted size core 3 (omega arith) (omega arith))
+    (λ within. if_cases refusal (nat_lt (256 - 8) (asked_range body).size) (Some 11) None
+    (λ large. refusal-wanted size core 11 (omega arith) (omega arith))
+    (λ fits. (omega arith, λ none. part-length (asked_range body) core.flash within ∙ asked-size at size small)))
+
+-- FLASH_WRITE
+write-row-wanted : (core : Core) (version : ℕ) (body : List ℕ) → HasWanted 0 (flash_write_row core version body)
+write-row-wanted core version body =
+    let refusal : Option ℕ → Type 0 = λ refused. HasWanted 0 (unless_refused refused core (done (written (u32_at 0 body) (drop 8 body) core))) in
+    if_cases refusal (not (is_whole_units 4 core (asked_range body)) || ((version == 0) && nat_lt 64 (asked_range body).size)) (Some 3) (if is_blocked (length core.flash) core.live (asked_range body) then Some 4 else None)
+    (λ outside. refusal-wanted 0 core 3 (omega arith) (omega arith))
+    (λ within. if_cases refusal (is_blocked (length core.flash) core.live (asked_range body)) (Some 4) None
+    (λ blocked. refusal-wanted 0 core 4 (omega arith) (omega arith))
+    (λ open_. (omega arith, λ none. refl)))
+
+-- a command that is built, behind the checks
+checked-wanted : (want : ℕ) (core : Core) (spelled : Bool) (admitted : Admitted) → HasWanted want (row_of core 256 (Ok admitted)) →
+    HasWanted want (row_of core 256 (if is_some core.live.erase && true then Err 16 else if not spelled then Err 3 else Ok admitted))
+checked-wanted want core spelled admitted wanted =
+    let answers : Result Admitted ℕ → Type 0 = λ result. HasWanted want (row_of core 256 result) in
+    if_cases answers (is_some core.live.erase && true) (Err 16) (if not spelled then Err 3 else Ok admitted) (λ busy. refusal-wanted want core 16 (omega arith) (omega arith))
+    (λ free. if_cases answers (not spelled) (Err 3) (Ok admitted) (λ wrong. refusal-wanted want core 3 (omega arith) (omega arith)) (λ right. wanted))
+
+-- HELLO
+hello-wanted : (core : Core) → HasWanted 4 (row_of core 256 (admitted_from core (Ok (record { command = 0x01; version = 0; body = hello_ask 0xA0B0C0D0 }))))
+hello-wanted core = checked-wanted 4 core true _ (omega arith, λ none. omega arith)
+
+-- FLASH_READ
+read-wanted : (core : Core) (at size : ℕ) → size < 2 ^ 32 → HasWanted size (row_of core 256 (admitted_from core (Ok (record { command = 0x11; version = 0; body = flash_read_ask at size }))))
+read-wanted core at size small = checked-wanted size core true _ (read-row-wanted core at size small)
+
+-- FLASH_WRITE
+write-wanted : (core : Core) (body : List ℕ) → HasWanted 0 (row_of core 256 (admitted_from core (Ok (record { command = 0x12; version = 1; body = body }))))
+write-wanted core body = checked-wanted 0 core (is_write_spelled body) _ (write-row-wanted core 1 body)
+
+-- a request as it is spelled
+spelled-wanted : (want : ℕ) (core : Core) (command version : ℕ) (body : List ℕ) → command < 65536 → length body < 65536 →
+    HasWanted want (row_of core 256 (admitted_from core (Ok (record { command = command; version = version; body = body })))) → HasWanted want (handled core 256 (request_packet command version body))
+spelled-wanted want core command version body small short wanted =
+    subst (λ (framed : Result RequestView ℕ). HasWanted want (row_of core 256 (admitted_from core framed))) (sym (framing-spelled command version body small short)) wanted
+
+-- each command of a line
+pub command-wanted : (tool : Tool) (k : ℕ) (core : Core) → HasWanted (command_of 256 tool k).want (handled core 256 (packet_of (command_of 256 tool k)))
+command-wanted Hello k core = spelled-wanted 4 core 0x01 0 (hello_ask 0xA0B0C0D0) (omega arith) (omega arith) (hello-wanted core)
+command-wanted (FlashRead at size) k core =
+    let part = min 248 (size - k * 248) in
+    let place = (at + k * 248) % 2 ^ 32 in
+    spelled-wanted part core 0x11 0 (flash_read_ask place part) (omega arith) (omega arith) (read-wanted core place part (omega arith))
+command-wanted (FlashWrite at bytes) k core =
+    let body = (command_of 256 (FlashWrite at bytes) k).body in
+    spelled-wanted 0 core 0x12 1 body (omega arith) (omega (arith, command-short (FlashWrite at bytes) k)) (write-wanted core body)
