@@ -19,7 +19,7 @@ use Rattle.ec_wire.specs.Calls.{WireView, RoseBy, Grows, is_failed_entry, is_wir
 use Rattle.ec_wire.specs.Quiet.{IsCalm, quiet_entry}
 
 -- a count that did not rise was raised by nothing
-none-rose : (amount before now : ℕ) → RoseBy amount before now → ¬ Rose before now → amount ≡ 0
+pub none-rose : (amount before now : ℕ) → RoseBy amount before now → ¬ Rose before now → amount ≡ 0
 none-rose zero before now rose still = refl
 none-rose (suc amount) before now rose still = absurd (still (omega (arith, rose.risen)))
 
@@ -29,7 +29,7 @@ none-by true rest count none follows = absurd (omega (arith, none))
 none-by false rest count none follows = follows (omega (arith, none))
 
 -- no entry of a list that none passes a test passes it
-none-any : (test : Entry → Bool) (entries : List Entry) → count_by test entries ≡ 0 → list_any test entries ≡ false
+pub none-any : (test : Entry → Bool) (entries : List Entry) → count_by test entries ≡ 0 → list_any test entries ≡ false
 none-any test [] none = refl
 none-any test (entry ∷ entries) none =
     none-by (test entry) (list_any test entries) (count_by test entries)
@@ -55,7 +55,7 @@ upset-none false true changed first second third = second
 upset-none true hurt changed first second third = first
 
 -- no entry disturbs
-undisturbed-by : (entries : List Entry) → list_any is_world entries ≡ false → list_any is_failed_entry entries ≡ false → list_any is_cut_entry entries ≡ false → list_any is_changed entries ≡ false → list_any is_upset entries ≡ false
+pub undisturbed-by : (entries : List Entry) → list_any is_world entries ≡ false → list_any is_failed_entry entries ≡ false → list_any is_cut_entry entries ≡ false → list_any is_changed entries ≡ false → list_any is_upset entries ≡ false
 undisturbed-by [] world failed cut changed = refl
 undisturbed-by (entry ∷ entries) world failed cut changed =
     let w = or-false (is_world entry) (list_any is_world entries) world in

@@ -1,5 +1,6 @@
-pub mod Filling
-pub mod Served
-pub mod Journeys
-pub mod Greeting
+pub mod Doing
+pub mod Adding
+pub mod Undisturbed
+pub mod ServedLemmas
+pub mod Powering
 pub mod Whole

@@ -13,12 +13,21 @@ use Rattle.ec_wire.specs.Journals.{JournalView}
 use Rattle.ec_core.specs.View.{EcView}
 use Rattle.bench_wire.specs.BenchView.{BenchView, wire_view}
 use Rattle.ecbench.specs.declared.run.Exit.{Exit}
-use Rattle.ecbench.specs.declared.run.Exit.TheVariants.{Done}
-use Rattle.ecbench.specs.Endings.{IsStarted, Ends, RunsTo, NothingFailed, GreetsWell}
+use Rattle.ecbench.specs.Endings.{IsStarted, EndsAsSeen, EndsUndisturbed, RunsTo, NothingFailed}
 use Rattle.ecbench.specs.Serving.{Drives}
-use Rattle.ecbench.proofs.Served.{drives-ends}
-use Rattle.ecbench.proofs.Journeys.{Grew, drives-grew, runs-to}
-use Rattle.ecbench.proofs.Greeting.{greets-well}
+use Rattle.ecbench.proofs.Powering.{Grew, drives-grew, drives-seen, drives-undisturbed}
+
+-- a run from the flash as it came to the flash as it is
+pub runs-to : (entries : List Entry) (came left : Option (List ℕ)) (last : Option Table) → RunsAlong entries (option_map (λ bytes. off_table bytes true Lpc) came) last → option_map (λ table. table.flash) last ≡ left → RunsTo entries came left
+runs-to entries None left None runs same = subst (λ (held : Option (List ℕ)). RunsTo entries None held) same tt
+runs-to entries None left (Some last) runs same = absurd runs
+runs-to entries (Some bytes) left None runs same = absurd runs
+runs-to entries (Some bytes) left (Some last) runs same = subst (λ (held : Option (List ℕ)). RunsTo entries (Some bytes) held) same (last, runs, refl)
+
+-- no entries
+pub runs-none : (held : Option (List ℕ)) → RunsTo [] held held
+runs-none None = tt
+runs-none (Some bytes) = (off_table bytes true Lpc, refl, refl)
 
 -- a bench that is off, with the flash as it came
 pub record Opens (came : DeviceView) (bench : BenchView) : Type 0 where
@@ -46,10 +55,10 @@ entries-of bench left journal hands = ap (λ (j : JournalView). j.entries) hands
 
 -- what the exit says
 pub run-ends : (exit : Exit) (words : List (List ℕ)) (came left : DeviceView) (bench after : BenchView) (journal : JournalView) (script rest before printed : Option (List ℕ)) → IsStarted words came.extent → Opens came bench → HandsBack after left journal →
-    Drives exit (wire_view Lpc bench) (wire_view Lpc after) script rest before printed → Ends exit words came.extent script rest before printed journal.entries
+    Drives exit (wire_view Lpc bench) (wire_view Lpc after) script rest before printed → EndsAsSeen exit words came.extent script rest before printed journal.entries
 run-ends exit words came left bench after journal script rest before printed started opened hands drives =
-    subst (λ (entries : List Entry). Ends exit words came.extent script rest before printed entries) (sym (entries-of after left journal hands))
-    (drives-ends exit words came.extent (wire_view Lpc bench) (wire_view Lpc after) script rest before printed started opened.empty refl drives)
+    subst (λ (entries : List Entry). EndsAsSeen exit words came.extent script rest before printed entries) (sym (entries-of after left journal hands))
+    (drives-seen exit words came.extent (wire_view Lpc bench) (wire_view Lpc after) script rest before printed started opened.empty drives)
 
 -- all of the journal was added
 grew-all : (exit : Exit) (came left : DeviceView) (bench after : BenchView) (journal : JournalView) (script rest before printed : Option (List ℕ)) → Opens came bench → HandsBack after left journal →
@@ -91,12 +100,11 @@ told-allowed : (held : Option (List ℕ)) (extent : ℕ) → ((bytes : List ℕ)
 told-allowed None extent whole allowed = tt
 told-allowed (Some bytes) extent whole allowed = ap is_flash_size (whole bytes refl) ∙ allowed
 
--- the line where nothing failed
-pub run-greets : (exit : Exit) (came left : DeviceView) (bench after : BenchView) (journal : JournalView) (script rest before printed : Option (List ℕ)) → is_flash_size came.extent ≡ true → ((bytes : List ℕ) → came.held ≡ Some bytes → length bytes ≡ came.extent) →
-    Opens came bench → HandsBack after left journal → Drives exit (wire_view Lpc bench) (wire_view Lpc after) script rest before printed → exit ≡ Done → NothingFailed came left → IfSome came.held (λ bytes. GreetsWell journal.entries before printed)
-run-greets exit came left bench after journal script rest before printed allowed whole opened hands drives done nothing =
-    subst (λ (entries : List Entry). IfSome came.held (λ bytes. GreetsWell entries before printed)) (sym (entries-of after left journal hands))
-    (greets-well came.held (wire_view Lpc bench) (wire_view Lpc after) script rest before printed (told-allowed came.held came.extent whole allowed) opened.empty refl refl opened.table
+-- what the exit says where nothing failed
+pub run-undisturbed : (exit : Exit) (words : List (List ℕ)) (came left : DeviceView) (bench after : BenchView) (journal : JournalView) (script rest before printed : Option (List ℕ)) → ((bytes : List ℕ) → came.held ≡ Some bytes → length bytes ≡ came.extent) → IsStarted words came.extent →
+    Opens came bench → HandsBack after left journal → Drives exit (wire_view Lpc bench) (wire_view Lpc after) script rest before printed → NothingFailed came left → IfSome came.held (λ bytes. EndsUndisturbed bytes exit words came.extent script rest before printed journal.entries)
+run-undisturbed exit words came left bench after journal script rest before printed whole started opened hands drives nothing =
+    subst (λ (entries : List Entry). IfSome came.held (λ bytes. EndsUndisturbed bytes exit words came.extent script rest before printed entries)) (sym (entries-of after left journal hands))
+    (drives-undisturbed came.held exit words came.extent (wire_view Lpc bench) (wire_view Lpc after) script rest before printed (told-allowed came.held came.extent whole started.sized) started opened.empty opened.table
     (λ rose. nothing.no_fault (subst (λ (device : DeviceView). Rose device.faults left.faults) opened.device (subst (λ (device : DeviceView). Rose bench.controller.device.faults device.faults) (sym hands.flash) rose)))
-    (λ rose. nothing.no_cut (subst (λ (device : DeviceView). Rose device.cuts left.cuts) opened.device (subst (λ (device : DeviceView). Rose bench.controller.device.cuts device.cuts) (sym hands.flash) rose)))
-    (subst (λ (e : Exit). Drives e (wire_view Lpc bench) (wire_view Lpc after) script rest before printed) done drives))
+    (λ rose. nothing.no_cut (subst (λ (device : DeviceView). Rose device.cuts left.cuts) opened.device (subst (λ (device : DeviceView). Rose bench.controller.device.cuts device.cuts) (sym hands.flash) rose))) drives)

@@ -1,5 +1,5 @@
 -- What each exit of a run says of the words, the flash, the script, the printed bytes and the journal.
-use Rattle.std.specs.Prelude.{◌≡◌, ◌⊎◌, ℕ, Bool, true, List, [], ◌∷◌, map, Option, IsTrue, IsFalse}
+use Rattle.std.specs.Prelude.{◌≡◌, ◌⊎◌, ℕ, Bool, true, false, List, [], ◌∷◌, map, Option, IsTrue, IsFalse}
 use Rattle.ec_types.specs.Tables.{packet_limit}
 use Rattle.ec_types.specs.declared.bus.BusKind.TheVariants.{Lpc}
 use Rattle.ec_types.specs.declared.reset.ResetCause.TheVariants.{PowerOn}
@@ -24,6 +24,7 @@ use Rattle.host_transport.specs.Once.{Ending, Said}
 use Rattle.ectool_lines.specs.Requests.{Asked, packet_of}
 use Rattle.ectool_lines.specs.Running.{Appends}
 use Rattle.ectool_lines.specs.Asking.{Hears}
+use Rattle.ectool_lines.specs.Answering.{Answers}
 use Rattle.ecbench.specs.declared.run.Exit.{Exit}
 use Rattle.ecbench.specs.declared.run.Exit.TheVariants.{Done, BadWords, BadFlash, BadLine, SourceFault, SinkFault, NoMemory, ScriptTooLong}
 use Rattle.ecbench.specs.Words.{are_words}
@@ -76,17 +77,10 @@ StartsOn boot on = on ≡ true
 abbrev pub EndsAsSeen : Exit → List (List ℕ) → (size : ℕ) → (left rest before after : Option (List ℕ)) → List Entry → Type 0
 EndsAsSeen = Ends StartsOn (Hears Lpc)
 
--- where nothing disturbs it: the controller has booted from this flash, and the boot read it
+-- where nothing disturbs it: the controller has booted from this flash, and the boot read it; then each command is handled
+-- and answered (`Answers`)
 abbrev pub StartsBooted : List ℕ → Hurt → Core → Type 0
 StartsBooted flash boot core = (boot ≡ Whole) × (core ≡ booted flash true PowerOn false)
-
--- where nothing disturbs it: a command is handled, and its exchange on the bus brings the response, which the host hears
-pub record Answers (old : Core) (asked : Asked) (entries : List Entry) (ending : Ending) (new : Core) : Type 0 where
-  pub status : ℕ
-  pub body : List ℕ
-  pub handled_is : handled old (packet_limit Lpc) (packet_of asked) ≡ Answered new status body
-  pub entries_are : entries ≡ map quiet_entry (lpc_exchange 0 (packet_of asked) (response_packet status body))
-  pub ending_is : ending ≡ Said status body
 
 -- what each exit says, where nothing fails in a flash with these bytes
 abbrev pub EndsUndisturbed : List ℕ → Exit → List (List ℕ) → (size : ℕ) → (left rest before after : Option (List ℕ)) → List Entry → Type 0

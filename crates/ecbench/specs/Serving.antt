@@ -1,5 +1,5 @@
 -- What the parts of a run do, seen on the wire.
-use Rattle.std.specs.Prelude.{◌≡◌, ◌⊎◌, ℕ, true, false, List, [], ◌∷◌, Option, IsTrue, IsFalse, Ok, Err}
+use Rattle.std.specs.Prelude.{◌≡◌, ◌⊎◌, ℕ, true, List, [], ◌∷◌, Option, Some, None, IsTrue, IsFalse, Result, Ok, Err}
 use Rattle.std.specs.List.{list_any}
 use Rattle.ec_types.specs.declared.bus.BusKind.TheVariants.{Lpc}
 use Rattle.ec_model.specs.declared.event.Entry.{Entry}
@@ -14,7 +14,10 @@ use Rattle.ectool_lines.specs.Tools.{tool_of}
 use Rattle.ectool_lines.specs.Running.{Appends, AppendsFront, Carries}
 use Rattle.ectool_lines.specs.Asking.{Hears}
 use Rattle.ecbench.specs.declared.run.Exit.{Exit}
-use Rattle.ecbench.specs.declared.run.Exit.TheVariants.{Done, BadLine, SinkFault, NoMemory}
+use Rattle.ecbench.specs.declared.run.Exit.TheVariants.{Done, BadLine, SinkFault, NoMemory, ScriptTooLong}
+use Rattle.line_reader.specs.declared.reader.Next.{Next}
+use Rattle.line_reader.specs.declared.reader.Next.TheVariants.{Line, Last, End, TooLong, Full}
+use Rattle.ec_types.specs.declared.why.Why.TheVariants as why
 use Rattle.ecbench.specs.Lines.{IsFaulty}
 use Rattle.ecbench.specs.Scripts.{PlaysUpTo}
 use Rattle.ecbench.specs.Endings.{power_on}
@@ -47,16 +50,24 @@ pub record PassesLine (line : List ℕ) (old new : WireView) (before after : Opt
 
 -- what was done with a line: carried out and printed, or passed over; refused; carried out and printed in part; or marked at
 -- most, since memory was refused
-abbrev pub ServesLine : Exit → ℕ → List ℕ → WireView → WireView → (before after : Option (List ℕ)) → Type 0
-ServesLine Done number line old new before after =
+abbrev pub ServesLine : Result (Unit {0}) Exit → ℕ → List ℕ → WireView → WireView → (before after : Option (List ℕ)) → Type 0
+ServesLine (Ok done) number line old new before after =
     PassesLine line old new before after ⊎ ((text : List ℕ) × CarriesLine number line text old new × Appends text before after)
-ServesLine (BadLine at reason) number line old new before after =
+ServesLine (Err (BadLine at reason)) number line old new before after =
     (at ≡ number) × IsFaulty line reason × (new ≡ old) × Appends [] before after
-ServesLine SinkFault number line old new before after =
+ServesLine (Err SinkFault) number line old new before after =
     (text : List ℕ) × CarriesLine number line text old new × AppendsFront text before after
-ServesLine NoMemory number line old new before after =
+ServesLine (Err NoMemory) number line old new before after =
     ((new ≡ old) ⊎ MarksLine number old new) × Appends [] before after
-ServesLine other number line old new before after = ⊥
+ServesLine (Err other) number line old new before after = ⊥
+
+-- the exit that ends a script before a line of it, if there is one
+abbrev pub exit_at : Next → ℕ → Option Exit
+exit_at Line number = None
+exit_at Last number = None
+exit_at End number = Some Done
+exit_at TooLong number = Some (BadLine number why.TooLong)
+exit_at Full number = Some ScriptTooLong
 
 -- some entries were added, none of them an event of the world's or with a changed byte
 pub record Behaves (added : List Entry) (old new : WireView) : Type 0 where

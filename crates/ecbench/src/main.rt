@@ -1,8 +1,8 @@
 //! The bench: a Chromebook's embedded controller and its host in one process, driven by a script on standard input.
 #![tactic(auto)]
 
-mod serving;
 mod run;
+mod serving;
 #[cfg(test)]
 mod tests;
 mod word;

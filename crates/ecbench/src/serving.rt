@@ -1,9 +1,9 @@
 // A script, served line by line.
-ghost use Rattle.std.specs.Prelude.{◌≡◌, ◌≤◌, false};
+ghost use Rattle.std.specs.Prelude.{◌≡◌, ◌≤◌, ◌↔◌, false, IsTrue};
 ghost use Rattle.flash_dev.specs.Counts.{Rose};
 ghost use Rattle.ec_types.specs.declared.bus.BusKind.TheVariants.{Lpc as LpcKind};
 ghost use Rattle.bench_wire.specs.BenchView.{wire_view};
-ghost use Rattle.ecbench.specs.Serving.{Drives, Serves, PowersOn, ServesLine};
+ghost use Rattle.ecbench.specs.Serving.{Drives, Serves, PowersOn, ServesLine, exit_at};
 
 use crate::run::Exit;
 use bench_io::{Sink, Source};
@@ -64,18 +64,39 @@ fn serve<F: FlashDev, S: Source, K: Sink>(
             Ok(next) => next,
             Err(Failed) => return Exit::SourceFault,
         };
-        match next {
-            Next::Line | Next::Last => {}
-            Next::End => return Exit::Done,
-            Next::TooLong => return too_long(number),
-            Next::Full => return Exit::ScriptTooLong,
-        }
-        let exit = serve_line(bench, number, reader.line(), sink);
-        if exit != Exit::Done || next == Next::Last {
+        if let Some(exit) = exit_at(next, number) {
             return exit;
+        }
+        if let Err(exit) = serve_line(bench, number, reader.line(), sink) {
+            return exit;
+        }
+        if is_last(next) {
+            return Exit::Done;
         }
     }
     unreachable!()
+}
+
+// Whether a line is the last one, which the end of the script ends.
+fn is_last(next: Next) -> bool
+    ensures { IsTrue result ↔ (next ≡ Next.Last) }
+{
+    matches!(next, Next::Last)
+}
+
+// The exit that ends the script before this line, if there is one.
+fn exit_at(next: Next, number: u32) -> Option<Exit>
+    ensures { result ≡ exit_at next number }
+{
+    match next {
+        Next::Line | Next::Last => None,
+        Next::End => Some(Exit::Done),
+        Next::TooLong => Some(Exit::BadLine {
+            line: number,
+            why: Why::TooLong,
+        }),
+        Next::Full => Some(Exit::ScriptTooLong),
+    }
 }
 
 // Carries out a line, passes over one that does nothing, or refuses one that is outside the grammar.
@@ -84,25 +105,26 @@ fn serve_line<F: FlashDev, K: Sink>(
     number: u32,
     line: &[u8],
     sink: &mut K,
-) -> Exit
+) -> Result<(), Exit>
     ensures serves { ServesLine result number line.now (wire_view LpcKind bench.old) (wire_view LpcKind bench.new) (K.written sink.old) (K.written sink.new) }
-    ensures sink_fault { result ≡ Exit.SinkFault → Rose (K.faults sink.old) (K.faults sink.new) }
+    ensures sink_fault { result ≡ Err Exit.SinkFault → Rose (K.faults sink.old) (K.faults sink.new) }
+    ensures later { K.faults sink.old ≤ K.faults sink.new }
 {
     if is_idle(line) {
-        return Exit::Done;
+        return Ok(());
     }
     let tool = match parse(line) {
         Ok(tool) => tool,
-        Err(why) => return Exit::BadLine { line: number, why },
+        Err(why) => return Err(Exit::BadLine { line: number, why }),
     };
     match bench.reserve(1) {
         Ok(()) => {}
-        Err(_) => return Exit::NoMemory,
+        Err(_) => return Err(Exit::NoMemory),
     }
     bench.mark(number);
     match run(bench, &tool, sink) {
-        Ok(()) => Exit::Done,
-        Err(ToolErr::Sink) => Exit::SinkFault,
-        Err(ToolErr::NoMemory) => Exit::NoMemory,
+        Ok(()) => Ok(()),
+        Err(ToolErr::Sink) => Err(Exit::SinkFault),
+        Err(ToolErr::NoMemory) => Err(Exit::NoMemory),
     }
 }

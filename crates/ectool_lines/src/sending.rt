@@ -40,6 +40,7 @@ pub fn run<W: Wire, K: Sink>(w: &mut W, tool: &Tool, sink: &mut K) -> Result<(),
     requires within { IsInRange tool.now }
     ensures runs { RunsTool result tool.now (W.view w.old) (W.view w.new) (K.written sink.old) (K.written sink.new) }
     ensures cause { result ≡ Err ToolErr.Sink → Rose (K.faults sink.old) (K.faults sink.new) }
+    ensures later { K.faults sink.old ≤ K.faults sink.new }
 {
     match w.reserve(ROOM) {
         Ok(()) => {}

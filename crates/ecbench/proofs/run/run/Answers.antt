@@ -1,7 +1,6 @@
 use Rattle.std.proofs.Common.{◌≡◌, ap, sym, ◌∙◌, refl, true}
 use Rattle.flash_dev.specs.Ranges.{is_flash_size}
-use Rattle.ecbench.proofs.Journeys.{runs-none}
-use Rattle.ecbench.proofs.Whole.{opens, run-ends, run-runs, run-faults, run-cuts, run-greets}
+use Rattle.ecbench.proofs.Whole.{runs-none, opens, run-ends, run-runs, run-faults, run-cuts, run-undisturbed}
 use Rattle.ecbench.proofs.run.run.Goals as goal
 
 pub returns-in_default-clause-run : goal.returns-in_default-clause-run
@@ -35,8 +34,9 @@ returns-clause-cuts g c =
     run-cuts _ _ _ c.new-bench.result c.drive-exit.new.bench _ _ _ _ _ (opens _ _ _ c.new-bench.ensures c.new-2.ensures.table c.new-2.ensures.device)
     (record { flash = c.finish-flash.ensures.flash; journal = c.finish-flash.ensures.journal; table = c.finish-flash.ensures.table }) c.drive-exit.ensures.drives
 
-pub returns-clause-greets : goal.returns-clause-greets
-returns-clause-greets g c = λ done nothing.
+pub returns-clause-undisturbed : goal.returns-clause-undisturbed
+returns-clause-undisturbed g c =
     let allowed : is_flash_size (g.F.FlashDev.seen c.args.flash).extent ≡ true = ap is_flash_size (sym c.size.ensures) ∙ c.in-Some.ensures.allowed.0 refl in
-    run-greets _ _ _ c.new-bench.result c.drive-exit.new.bench _ _ _ _ _ allowed (g.met.F.FlashDev.told_whole c.args.flash) (opens _ _ _ c.new-bench.ensures c.new-2.ensures.table c.new-2.ensures.device)
-    (record { flash = c.finish-flash.ensures.flash; journal = c.finish-flash.ensures.journal; table = c.finish-flash.ensures.table }) c.drive-exit.ensures.drives done nothing
+    run-undisturbed _ _ _ _ c.new-bench.result c.drive-exit.new.bench _ _ _ _ _ (g.met.F.FlashDev.told_whole c.args.flash) (record { worded = sym c.are_words.ensures ∙ c.if-not-are_words.false; sized = allowed })
+    (opens _ _ _ c.new-bench.ensures c.new-2.ensures.table c.new-2.ensures.device)
+    (record { flash = c.finish-flash.ensures.flash; journal = c.finish-flash.ensures.journal; table = c.finish-flash.ensures.table }) c.drive-exit.ensures.drives

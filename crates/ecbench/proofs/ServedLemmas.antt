@@ -1,0 +1,510 @@
+-- A script, line by line: what was done so far, and what each exit says.
+use Rattle.std.proofs.Common.{◌≡◌, refl, sym, ap, ◌∙◌, subst, ℕ, ◌+◌, ◌≤◌, ◌<◌, Bool, true, false, nat_le, nat_lt, if◌then◌else◌, List, [], ◌∷◌, ◌++◌, length, length-append, map, take, append_assoc, append-nil, ◌⊎◌, inl, inr, Option, Some, None, Result, Ok, Err, arith}
+use Rattle.std.specs.Prelude.{IfSome}
+use Rattle.std.proofs.lemmas.Bool.{le-leb, lt-ltb}
+use Rattle.std.proofs.lemmas.List.{length-map}
+use Rattle.ec_types.specs.declared.why.Why.{Why}
+use Rattle.ec_types.specs.declared.why.Why.TheVariants as why
+use Rattle.ec_types.specs.declared.bus.BusKind.TheVariants.{Lpc}
+use Rattle.flash_dev.specs.declared.device.Failed.{Failed}
+use Rattle.ec_model.specs.declared.event.Entry.{Entry}
+use Rattle.ec_model.specs.declared.event.Entry.TheVariants.{Mark}
+use Rattle.ec_wire.specs.Calls.{WireView}
+use Rattle.line_reader.specs.declared.reader.Next.{Next}
+use Rattle.line_reader.specs.declared.reader.Next.TheVariants.{Line, Last, End, TooLong, Full}
+use Rattle.line_reader.specs.Bytes.{NoneLeft}
+use Rattle.line_reader.specs.Finding.{ReaderView, IsLine as FoundLine, IsLast, IsEnd, IsOver, IsTooLong, IsFull, IsFailed, Finds}
+use Rattle.line_reader.specs.Lines.{most_bytes, longest_line, without_return, lines_of, lines_within, ended_lines, script_lines}
+use Rattle.line_reader.specs.Taking.{Takes}
+use Rattle.line_reader.proofs.Takings.{Takes-then}
+use Rattle.line_reader.proofs.Splitting.{Splits, splits-nothing, line-splits, line-read, line-lines, last-lines, end-lines, long-lines, full-lines, failed-lines}
+use Rattle.std.specs.Prelude.{codes, nat_eq, is_ok, ◌&&◌, ◌||◌, ◌==◌}
+use Rattle.std.specs.List.{list_any, starts_with}
+use Rattle.script_words.specs.Words.{words_of}
+use Rattle.script_words.specs.Lines.{checked, is_unprintable, does_nothing}
+use Rattle.script_words.specs.Forms.{◌>>=◌}
+use Rattle.ectool_lines.specs.Running.{Appends, AppendsFront}
+use Rattle.ectool_lines.specs.Asking.{Hears}
+use Rattle.ectool_lines.specs.Tools.{tool_of, tool_by}
+use Rattle.ectool_lines.specs.declared.tool.Tool.{Tool}
+use Rattle.ecbench.specs.declared.run.Exit.{Exit}
+use Rattle.ecbench.specs.declared.run.Exit.TheVariants.{Done, BadWords, BadFlash, BadLine, SourceFault, SinkFault, NoMemory, ScriptTooLong}
+use Rattle.ecbench.specs.Lines.{CarriesOut, IsDone, WasPassed, WasCarried, AreDone, IsFaulty}
+use Rattle.ecbench.specs.Scripts.{IsScript, IsWhole, IsLong, Plays, IsLine, StopsAtFault, StopsInText, StopsBefore, PlaysUpTo}
+use Rattle.ecbench.specs.Serving.{Behaves, Serves, ServesLine, PassesLine, CarriesLine, MarksLine, exit_at}
+use Rattle.ecbench.proofs.Doing.{done-more}
+use Rattle.ecbench.proofs.Adding.{behaves-nil, behaves-then, marks-behaves, line-adds}
+
+-- what is left of a source; nothing where that is not told
+abbrev rest_of : Option (List ℕ) → List ℕ
+rest_of None = []
+rest_of (Some rest) = rest
+
+-- nothing is left
+none-left : (rest : Option (List ℕ)) → NoneLeft rest → rest_of rest ≡ []
+none-left None none = refl
+none-left (Some rest) none = none
+
+-- what was taken and what is left is the whole script
+script-whole : (taken : List ℕ) (left rest : Option (List ℕ)) → Takes taken left rest → IfSome left (λ all. taken ++ rest_of rest ≡ all)
+script-whole taken None rest takes = tt
+script-whole taken (Some left) None takes = absurd takes
+script-whole taken (Some left) (Some rest) takes = takes
+
+is-script : (taken : List ℕ) (left rest : Option (List ℕ)) → Takes taken left rest → IsScript (taken ++ rest_of rest) taken left rest
+is-script taken left rest takes = record { takes = takes; more = rest_of rest; begins = refl; whole = script-whole taken left rest takes }
+
+-- texts one after the other
+appends-then : (first second : List ℕ) (old middle new : Option (List ℕ)) → Appends first old middle → Appends second middle new → Appends (first ++ second) old new
+appends-then first second None None None once again = tt
+appends-then first second None None (Some new) once again = again
+appends-then first second None (Some middle) new once again = absurd once
+appends-then first second (Some old) None new once again = absurd once
+appends-then first second (Some old) (Some middle) None once again = again
+appends-then first second (Some old) (Some middle) (Some new) once again = again ∙ ap (λ (front : List ℕ). front ++ second) once ∙ append_assoc old first second
+
+appends-nothing : (written : Option (List ℕ)) → Appends [] written written
+appends-nothing None = tt
+appends-nothing (Some written) = sym (append-nil written)
+
+-- So many lines of a script were done: their parts and their bytes, which were read; the entries that they added, and what
+-- they printed.
+pub record Served (number : ℕ) (opened now : WireView) (reader : ReaderView) (left rest before after : Option (List ℕ)) : Type 0 where
+  pub raws : List (List ℕ)
+  pub used : List ℕ
+  pub splits : Splits raws used
+  pub read : length used ≡ reader.given
+  pub takes : Takes (used ++ reader.ahead) left rest
+  pub number_is : number ≡ length raws + 1
+  pub few : number ≤ length used + 1
+  pub own : List Entry
+  pub behaves : Behaves own opened now
+  pub text : List ℕ
+  pub done : AreDone (Hears Lpc) 1 opened.on (map without_return raws) own text now.on
+  pub printed : Appends text before after
+
+-- nothing was read yet
+pub served-nothing : (opened : WireView) (left before : Option (List ℕ)) (reader : ReaderView) → reader ≡ record { ahead = []; given = 0; line = [] } → Takes [] left left → Served 1 opened opened reader left left before before
+served-nothing opened left before reader fresh none =
+    record {
+      raws = [];
+      used = [];
+      splits = splits-nothing;
+      read = ap (λ (r : ReaderView). r.given) (sym fresh);
+      takes = subst (λ (ahead : List ℕ). Takes ahead left left) (ap (λ (r : ReaderView). r.ahead) (sym fresh)) none;
+      number_is = refl;
+      few = omega arith;
+      own = [];
+      behaves = behaves-nil opened;
+      text = [];
+      done = (refl, refl, refl);
+      printed = appends-nothing before;
+    }
+
+-- what was taken once the next line was looked for
+taken-more : (number : ℕ) (opened now : WireView) (reader : ReaderView) (left rest more before after : Option (List ℕ)) (came : List ℕ) → (served : Served number opened now reader left rest before after) → Takes came rest more →
+    Takes (served.used ++ (reader.ahead ++ came)) left more
+taken-more number opened now reader left rest more before after came served takes =
+    subst (λ (taken : List ℕ). Takes taken left more) (append_assoc served.used reader.ahead came) (Takes-then (served.used ++ reader.ahead) came left rest more served.takes takes)
+
+-- the number of a line
+line-number : (number : ℕ) (raws : List (List ℕ)) → number ≡ length raws + 1 → number ≡ length (map without_return raws) + 1
+line-number number raws same = omega (arith, same, length-map raws without_return)
+
+-- the source failed
+pub serves-failed : (number : ℕ) (opened now : WireView) (reader after_reader : ReaderView) (left rest more before after : Option (List ℕ)) (failed : Failed) → Served number opened now reader left rest before after → Finds (Err failed) reader after_reader rest more →
+    Serves SourceFault opened now left more before after
+serves-failed number opened now reader after_reader left rest more before after failed served finds =
+    let all = reader.ahead ++ finds.came in
+    let lines = failed-lines served.raws served.used served.splits reader after_reader all served.read finds.says in
+    record {
+      own = served.own;
+      behaves = served.behaves;
+      plays = (
+        served.used ++ all,
+        taken-more number opened now reader left rest more before after finds.came served finds.taken,
+        record {
+          text = served.text;
+          new = now.on;
+          done = subst (λ (ls : List (List ℕ)). AreDone (Hears Lpc) 1 opened.on ls served.own served.text now.on) (sym lines) served.done;
+          printed = served.printed;
+        },
+      );
+    }
+
+-- a script that is short enough
+script-fits : (bytes : List ℕ) → length bytes ≤ most_bytes → script_lines bytes ≡ lines_of bytes
+script-fits bytes short = ap (λ (test : Bool). if test then lines_of bytes else lines_within (take most_bytes bytes)) (le-leb (length bytes) most_bytes short)
+
+-- the script was read to its end
+pub serves-end : (number : ℕ) (opened now : WireView) (reader after_reader : ReaderView) (left rest more before after : Option (List ℕ)) → Served number opened now reader left rest before after → after_reader.given ≤ most_bytes → Finds (Ok End) reader after_reader rest more →
+    Serves Done opened now left more before after
+serves-end number opened now reader after_reader left rest more before after served within finds =
+    let all = reader.ahead ++ finds.came in
+    let end = finds.says in
+    let taken = taken-more number opened now reader left rest more before after finds.came served finds.taken in
+    let whole : served.used ++ all ≡ served.used = ap (λ (bytes : List ℕ). served.used ++ bytes) end.bytes ∙ append-nil served.used in
+    let fits : length served.used ≤ most_bytes = omega (arith, served.read, end.read, within) in
+    let ended : IsEnd reader after_reader all (Some []) = record { bytes = end.bytes; read = end.read; ahead = end.ahead; left = refl } in
+    let lines : script_lines (served.used ++ (all ++ [])) ≡ map without_return served.raws = end-lines served.raws served.used served.splits reader after_reader all served.read within [] ended in
+    let same : served.used ++ (all ++ []) ≡ served.used = ap (λ (bytes : List ℕ). served.used ++ bytes) (append-nil all) ∙ whole in
+    let lines_are : lines_of served.used ≡ map without_return served.raws = sym (script-fits served.used fits) ∙ ap script_lines (sym same) ∙ lines in
+    record {
+      own = served.own;
+      behaves = served.behaves;
+      plays = (
+        served.used,
+        record { takes = subst (λ (bytes : List ℕ). Takes bytes left more) whole taken; end = end.left; fits = fits },
+        record {
+          text = served.text;
+          new = now.on;
+          done = subst (λ (ls : List (List ℕ)). AreDone (Hears Lpc) 1 opened.on ls served.own served.text now.on) (sym lines_are) served.done;
+          printed = served.printed;
+        },
+      );
+    }
+
+-- a script that is too long
+pub serves-full : (number : ℕ) (opened now : WireView) (reader after_reader : ReaderView) (left rest more before after : Option (List ℕ)) → Served number opened now reader left rest before after → Finds (Ok Full) reader after_reader rest more →
+    Serves ScriptTooLong opened now left more before after
+serves-full number opened now reader after_reader left rest more before after served finds =
+    let all = reader.ahead ++ finds.came in
+    let full = finds.says in
+    let taken = taken-more number opened now reader left rest more before after finds.came served finds.taken in
+    let lines = full-lines served.raws served.used served.splits reader after_reader all served.read (rest_of more) full in
+    let script = (served.used ++ all) ++ rest_of more in
+    let lines_are : script_lines script ≡ map without_return served.raws = ap script_lines (append_assoc served.used all (rest_of more)) ∙ lines in
+    let size : length (served.used ++ all) ≡ length served.used + (length full.raw + length full.more) =
+    length-append served.used all ∙ ap (λ (n : ℕ). length served.used + n) (ap length full.bytes ∙ length-append full.raw full.more) in
+    record {
+      own = served.own;
+      behaves = served.behaves;
+      plays = (
+        script,
+        record { taken = served.used ++ all; is_script = is-script (served.used ++ all) left more taken; long = omega (arith, size, served.read, full.read, full.some) },
+        record {
+          text = served.text;
+          new = now.on;
+          done = subst (λ (ls : List (List ℕ)). AreDone (Hears Lpc) 1 opened.on ls served.own served.text now.on) (sym lines_are) served.done;
+          printed = served.printed;
+        },
+      );
+    }
+
+-- what was done before a line
+abbrev before-line : (number : ℕ) (opened now : WireView) (reader : ReaderView) (left rest before after : Option (List ℕ)) → (served : Served number opened now reader left rest before after) → Plays (Hears Lpc) opened.on (map without_return served.raws) served.own before after
+before-line number opened now reader left rest before after served = record { text = served.text; new = now.on; done = served.done; printed = served.printed }
+
+-- a test and one that does not hold
+and-none : (a : Bool) → (a && false) ≡ false
+and-none true = refl
+and-none false = refl
+
+-- a line that is too long is outside the grammar
+long-faulty : (line : List ℕ) → longest_line < length line → IsFaulty line why.TooLong
+long-faulty line long =
+    let test : nat_lt 16384 (length line) ≡ true = lt-ltb longest_line (length line) long in
+    let checked_is : checked line ≡ Err why.TooLong = ap (λ (b : Bool). if b then Err why.TooLong else if list_any is_unprintable line then Err why.Ascii else Ok tt) test in
+    let front = starts_with nat_eq line (codes "#") || (length (words_of line) == 0) in
+    record {
+      does_something = ap (λ (outcome : Result (Unit {0}) Why). front && is_ok outcome) checked_is ∙ and-none front;
+      says = ap (λ (outcome : Result (Unit {0}) Why). outcome >>= λ _. tool_by (words_of line)) checked_is;
+    }
+
+-- the same, as if what is left were told
+told-over : (given : ℕ) (raw others : List ℕ) (rest : Option (List ℕ)) → IsOver given raw others rest → IsOver given raw others (Some (rest_of rest))
+told-over given raw others rest (inl over) = inl over
+told-over given raw others rest (inr (inl over)) = inr (inl over)
+told-over given raw others rest (inr (inr (inl over))) = inr (inr (inl (over.0, over.1, over.2, none-left rest over.3)))
+told-over given raw others rest (inr (inr (inr over))) = inr (inr (inr over))
+
+told-long : (old : ReaderView) (all : List ℕ) (rest : Option (List ℕ)) → IsTooLong old all rest → IsTooLong old all (Some (rest_of rest))
+told-long old all rest long = record { raw = long.raw; more = long.more; feedless = long.feedless; bytes = long.bytes; over = told-over old.given long.raw long.more rest long.over }
+
+-- the next line is too long
+pub serves-long : (number : ℕ) (opened now : WireView) (reader after_reader : ReaderView) (left rest more before after : Option (List ℕ)) → Served number opened now reader left rest before after → Finds (Ok TooLong) reader after_reader rest more →
+    Serves (BadLine number why.TooLong) opened now left more before after
+serves-long number opened now reader after_reader left rest more before after served finds =
+    let all = reader.ahead ++ finds.came in
+    let taken = taken-more number opened now reader left rest more before after finds.came served finds.taken in
+    let found = long-lines served.raws served.used served.splits reader after_reader all served.read (rest_of more) (told-long reader all more finds.says) in
+    let script = (served.used ++ all) ++ rest_of more in
+    record {
+      own = served.own;
+      behaves = served.behaves;
+      plays = (
+        script,
+        served.used ++ all,
+        found.0,
+        map without_return served.raws,
+        is-script (served.used ++ all) left more taken,
+        long-faulty found.0 found.2,
+        record {
+          is_line = record { more = found.1; lines_are = ap script_lines (append_assoc served.used all (rest_of more)) ∙ found.3 };
+          number_is = line-number number served.raws served.number_is;
+          plays = before-line number opened now reader left rest before after served;
+        },
+      );
+    }
+
+-- the line that was found, in the script
+pub record AtLine (raws : List (List ℕ)) (line : List ℕ) (left rest : Option (List ℕ)) : Type 0 where
+  pub script : List ℕ
+  pub taken : List ℕ
+  pub is_script : IsScript script taken left rest
+  pub is_line : IsLine script (map without_return raws) line
+
+-- a line that a line feed ends
+pub at-line : (number : ℕ) (opened now : WireView) (reader after_reader : ReaderView) (left rest more before after : Option (List ℕ)) → (served : Served number opened now reader left rest before after) → after_reader.given ≤ most_bytes → Finds (Ok Line) reader after_reader rest more →
+    AtLine served.raws after_reader.line left more
+at-line number opened now reader after_reader left rest more before after served within finds =
+    let all = reader.ahead ++ finds.came in
+    let taken = taken-more number opened now reader left rest more before after finds.came served finds.taken in
+    let found = line-lines served.raws served.used served.splits reader after_reader all served.read finds.says within (rest_of more) in
+    record {
+      script = (served.used ++ all) ++ rest_of more;
+      taken = served.used ++ all;
+      is_script = is-script (served.used ++ all) left more taken;
+      is_line = record { more = found.0; lines_are = ap script_lines (append_assoc served.used all (rest_of more)) ∙ found.1 };
+    }
+
+-- what is said of a last line, as if what is left were told
+told-last : (old new : ReaderView) (all : List ℕ) (rest : Option (List ℕ)) → IsLast old new all rest → IsLast old new all (Some (rest_of rest))
+told-last old new all rest last =
+    record { feedless = last.feedless; bytes = last.bytes; read = last.read; some = last.some; fits = last.fits; ahead = last.ahead; left = none-left rest last.left }
+
+-- a line that the end of the input ends
+pub at-last : (number : ℕ) (opened now : WireView) (reader after_reader : ReaderView) (left rest more before after : Option (List ℕ)) → (served : Served number opened now reader left rest before after) → after_reader.given ≤ most_bytes → Finds (Ok Last) reader after_reader rest more →
+    AtLine served.raws after_reader.line left more
+at-last number opened now reader after_reader left rest more before after served within finds =
+    let all = reader.ahead ++ finds.came in
+    let taken = taken-more number opened now reader left rest more before after finds.came served finds.taken in
+    let found = last-lines served.raws served.used served.splits reader after_reader all served.read within (rest_of more) (told-last reader after_reader all more finds.says) in
+    record {
+      script = (served.used ++ all) ++ rest_of more;
+      taken = served.used ++ all;
+      is_script = is-script (served.used ++ all) left more taken;
+      is_line = record { more = []; lines_are = ap script_lines (append_assoc served.used all (rest_of more)) ∙ found };
+    }
+
+-- a line that was done on the wire
+record LineDid (number : ℕ) (line : List ℕ) (old new : WireView) (before after : Option (List ℕ)) : Type 0 where
+  pub own : List Entry
+  pub said : List ℕ
+  pub behaves : Behaves own old new
+  pub done : IsDone (Hears Lpc) number old.on line own said new.on
+  pub printed : Appends said before after
+
+line-did : (number : ℕ) (line : List ℕ) (old new : WireView) (before after : Option (List ℕ)) → old.bus ≡ Lpc → old.armed ≡ false → PassesLine line old new before after ⊎ ((text : List ℕ) × CarriesLine number line text old new × Appends text before after) → LineDid number line old new before after
+line-did number line old new before after lpc disarmed (inl passes) =
+    record {
+      own = [];
+      said = [];
+      behaves = subst (λ (view : WireView). Behaves [] old view) (sym passes.same) (behaves-nil old);
+      done = WasPassed (record { does_nothing = passes.idle; no_entry = refl; no_text = refl; same = ap (λ (view : WireView). view.on) passes.same });
+      printed = passes.unprinted;
+    }
+line-did number line old new before after lpc disarmed (inr (text, carries, printed)) =
+    let adds = line-adds number line text old new lpc disarmed carries in
+    record { own = adds.added; said = text; behaves = adds.behaves; done = WasCarried adds.carries; printed = printed }
+
+-- a line behind others
+record DidMore (number : ℕ) (raws : List (List ℕ)) (line : List ℕ) (opened new : WireView) (before later : Option (List ℕ)) : Type 0 where
+  pub own : List Entry
+  pub behaves : Behaves own opened new
+  pub text : List ℕ
+  pub done : AreDone (Hears Lpc) 1 opened.on (map without_return raws ++ line ∷ []) own text new.on
+  pub printed : Appends text before later
+
+did-more : (number : ℕ) (opened now new : WireView) (reader : ReaderView) (line : List ℕ) (left rest before after printed : Option (List ℕ)) → (served : Served number opened now reader left rest before after) → opened.bus ≡ Lpc → opened.armed ≡ false →
+    ServesLine (Ok tt) number line now new after printed → DidMore number served.raws line opened new before printed
+did-more number opened now new reader line left rest before after printed served lpc disarmed line_done =
+    let extends = served.behaves.extends in
+    let did = line-did number line now new after printed (extends.bus ∙ lpc) (extends.armed disarmed) line_done in
+    record {
+      own = served.own ++ did.own;
+      behaves = behaves-then served.own did.own opened now new served.behaves did.behaves;
+      text = served.text ++ did.said;
+      done = done-more (Hears Lpc) 1 opened.on (map without_return served.raws) served.own served.text now.on number line did.own did.said new.on
+      (omega (arith, line-number number served.raws served.number_is)) served.done did.done;
+      printed = appends-then served.text did.said before after printed served.printed did.printed;
+    }
+
+-- the lines with one more
+map-more : (raws : List (List ℕ)) (raw : List ℕ) → map without_return (raws ++ raw ∷ []) ≡ map without_return raws ++ without_return raw ∷ []
+map-more [] raw = refl
+map-more (first ∷ raws) raw = ap (λ (rest : List (List ℕ)). without_return first ∷ rest) (map-more raws raw)
+
+-- one more line was done
+pub served-more : (number : ℕ) (opened now new : WireView) (reader after_reader : ReaderView) (left rest more before after printed : Option (List ℕ)) → Served number opened now reader left rest before after → opened.bus ≡ Lpc → opened.armed ≡ false →
+    Finds (Ok Line) reader after_reader rest more → ServesLine (Ok tt) number after_reader.line now new after printed → Served (number + 1) opened new after_reader left more before printed
+served-more number opened now new reader after_reader left rest more before after printed served lpc disarmed finds line_done =
+    let all = reader.ahead ++ finds.came in
+    let found = finds.says in
+    let taken = taken-more number opened now reader left rest more before after finds.came served finds.taken in
+    let did = did-more number opened now new reader after_reader.line left rest before after printed served lpc disarmed line_done in
+    let used = served.used ++ (found.raw ++ 10 ∷ []) in
+    let bytes : served.used ++ all ≡ used ++ after_reader.ahead =
+    ap (λ (b : List ℕ). served.used ++ b) (found.bytes ∙ sym (append_assoc found.raw (10 ∷ []) after_reader.ahead)) ∙ sym (append_assoc served.used (found.raw ++ 10 ∷ []) after_reader.ahead) in
+    let lines_are : map without_return (served.raws ++ found.raw ∷ []) ≡ map without_return served.raws ++ after_reader.line ∷ [] =
+    map-more served.raws found.raw ∙ ap (λ (line : List ℕ). map without_return served.raws ++ line ∷ []) (sym found.stripped) in
+    let read = line-read served.raws served.used served.splits reader after_reader all served.read found in
+    record {
+      raws = served.raws ++ found.raw ∷ [];
+      used = used;
+      splits = line-splits served.raws served.used served.splits reader after_reader all served.read found;
+      read = read;
+      takes = subst (λ (b : List ℕ). Takes b left more) bytes taken;
+      number_is = omega (arith, served.number_is, length-append served.raws (found.raw ∷ []));
+      few = omega (arith, served.few, served.read, read, found.read);
+      own = did.own;
+      behaves = did.behaves;
+      text = did.text;
+      done = subst (λ (ls : List (List ℕ)). AreDone (Hears Lpc) 1 opened.on ls did.own did.text new.on) (sym lines_are) did.done;
+      printed = did.printed;
+    }
+
+-- the last line was done
+pub serves-last : (number : ℕ) (opened now new : WireView) (reader after_reader : ReaderView) (left rest more before after printed : Option (List ℕ)) → Served number opened now reader left rest before after → opened.bus ≡ Lpc → opened.armed ≡ false → after_reader.given ≤ most_bytes →
+    Finds (Ok Last) reader after_reader rest more → ServesLine (Ok tt) number after_reader.line now new after printed → Serves Done opened new left more before printed
+serves-last number opened now new reader after_reader left rest more before after printed served lpc disarmed within finds line_done =
+    let all = reader.ahead ++ finds.came in
+    let last = finds.says in
+    let taken = taken-more number opened now reader left rest more before after finds.came served finds.taken in
+    let did = did-more number opened now new reader after_reader.line left rest before after printed served lpc disarmed line_done in
+    let script = served.used ++ all in
+    let fits : length script ≤ most_bytes = omega (arith, length-append served.used all, ap length last.bytes, served.read, last.read, within) in
+    let told : IsLast reader after_reader all (Some []) =
+    record { feedless = last.feedless; bytes = last.bytes; read = last.read; some = last.some; fits = last.fits; ahead = last.ahead; left = refl } in
+    let lines = last-lines served.raws served.used served.splits reader after_reader all served.read within [] told in
+    let lines_are : lines_of script ≡ map without_return served.raws ++ after_reader.line ∷ [] =
+    sym (script-fits script fits) ∙ ap (λ (b : List ℕ). script_lines (served.used ++ b)) (sym (append-nil all)) ∙ lines in
+    record {
+      own = did.own;
+      behaves = did.behaves;
+      plays = (
+        script,
+        record { takes = taken; end = last.left; fits = fits },
+        record {
+          text = did.text;
+          new = new.on;
+          done = subst (λ (ls : List (List ℕ)). AreDone (Hears Lpc) 1 opened.on ls did.own did.text new.on) (sym lines_are) did.done;
+          printed = did.printed;
+        },
+      );
+    }
+
+-- at most a mark of a line
+marked-behaves : (number : ℕ) (old new : WireView) → (new ≡ old) ⊎ MarksLine number old new → (last : List Entry) × ((last ≡ []) ⊎ (last ≡ Mark number ∷ [])) × Behaves last old new
+marked-behaves number old new (inl same) = ([], inl refl, subst (λ (view : WireView). Behaves [] old view) (sym same) (behaves-nil old))
+marked-behaves number old new (inr marks) = (Mark number ∷ [], inr refl, marks-behaves number old new marks)
+
+-- texts of which nothing follows
+appends-last : (text : List ℕ) (old middle new : Option (List ℕ)) → Appends text old middle → Appends [] middle new → Appends text old new
+appends-last text old middle new once again = subst (λ (bytes : List ℕ). Appends bytes old new) (append-nil text) (appends-then text [] old middle new once again)
+
+-- a line ended the script
+pub serves-stopped : (exit : Exit) (number : ℕ) (opened now new : WireView) (reader : ReaderView) (line : List ℕ) (left rest more before after printed : Option (List ℕ)) → (served : Served number opened now reader left rest before after) → opened.bus ≡ Lpc → opened.armed ≡ false →
+    AtLine served.raws line left more → ServesLine (Err exit) number line now new after printed → Serves exit opened new left more before printed
+serves-stopped (BadLine at reason) number opened now new reader line left rest more before after printed served lpc disarmed at_line (same, faulty, still, unprinted) =
+    record {
+      own = served.own;
+      behaves = subst (λ (view : WireView). Behaves served.own opened view) (sym still) served.behaves;
+      plays = (
+        at_line.script,
+        at_line.taken,
+        line,
+        map without_return served.raws,
+        at_line.is_script,
+        faulty,
+        record {
+          is_line = at_line.is_line;
+          number_is = same ∙ line-number number served.raws served.number_is;
+          plays = record { text = served.text; new = now.on; done = served.done; printed = appends-last served.text before after printed served.printed unprinted };
+        },
+      );
+    }
+serves-stopped SinkFault number opened now new reader line left rest more before after printed served lpc disarmed at_line (text, carries, front) =
+    let extends = served.behaves.extends in
+    let adds = line-adds number line text now new (extends.bus ∙ lpc) (extends.armed disarmed) carries in
+    record {
+      own = served.own ++ adds.added;
+      behaves = behaves-then served.own adds.added opened now new served.behaves adds.behaves;
+      plays = (
+        at_line.script,
+        at_line.taken,
+        line,
+        map without_return served.raws,
+        at_line.is_script,
+        at_line.is_line,
+        record {
+          first = served.own;
+          last = adds.added;
+          between = after;
+          text = text;
+          new = new.on;
+          entries_are = refl;
+          plays = before-line number opened now reader left rest before after served;
+          carries = subst (λ (n : ℕ). CarriesOut (Hears Lpc) n now.on line adds.added text new.on) (line-number number served.raws served.number_is) adds.carries;
+          printed = front;
+        },
+      );
+    }
+serves-stopped NoMemory number opened now new reader line left rest more before after printed served lpc disarmed at_line (marked, unprinted) =
+    let mark = marked-behaves number now new marked in
+    record {
+      own = served.own ++ mark.0;
+      behaves = behaves-then served.own mark.0 opened now new served.behaves mark.2;
+      plays = (
+        at_line.script,
+        at_line.taken,
+        line,
+        map without_return served.raws,
+        at_line.is_script,
+        at_line.is_line,
+        record {
+          first = served.own;
+          last = mark.0;
+          entries_are = refl;
+          marked = subst (λ (n : ℕ). (mark.0 ≡ []) ⊎ (mark.0 ≡ Mark n ∷ [])) (line-number number served.raws served.number_is) mark.1;
+          plays = record { text = served.text; new = now.on; done = served.done; printed = appends-last served.text before after printed served.printed unprinted };
+        },
+      );
+    }
+serves-stopped Done number opened now new reader line left rest more before after printed served lpc disarmed at_line never = absurd never
+serves-stopped BadWords number opened now new reader line left rest more before after printed served lpc disarmed at_line never = absurd never
+serves-stopped BadFlash number opened now new reader line left rest more before after printed served lpc disarmed at_line never = absurd never
+serves-stopped SourceFault number opened now new reader line left rest more before after printed served lpc disarmed at_line never = absurd never
+serves-stopped ScriptTooLong number opened now new reader line left rest more before after printed served lpc disarmed at_line never = absurd never
+
+-- an exit before a line
+pub serves-exit : (next : Next) (exit : Exit) (number : ℕ) (opened now : WireView) (reader after_reader : ReaderView) (left rest more before after : Option (List ℕ)) → exit_at next number ≡ Some exit → Served number opened now reader left rest before after → after_reader.given ≤ most_bytes →
+    Finds (Ok next) reader after_reader rest more → Serves exit opened now left more before after
+serves-exit Line exit number opened now reader after_reader left rest more before after same served within finds = absurd (cc)
+serves-exit Last exit number opened now reader after_reader left rest more before after same served within finds = absurd (cc)
+serves-exit End exit number opened now reader after_reader left rest more before after same served within finds =
+    let exit_is : Done ≡ exit = cc in
+    subst (λ (e : Exit). Serves e opened now left more before after) exit_is (serves-end number opened now reader after_reader left rest more before after served within finds)
+serves-exit TooLong exit number opened now reader after_reader left rest more before after same served within finds =
+    let exit_is : BadLine number why.TooLong ≡ exit = cc in
+    subst (λ (e : Exit). Serves e opened now left more before after) exit_is (serves-long number opened now reader after_reader left rest more before after served finds)
+serves-exit Full exit number opened now reader after_reader left rest more before after same served within finds =
+    let exit_is : ScriptTooLong ≡ exit = cc in
+    subst (λ (e : Exit). Serves e opened now left more before after) exit_is (serves-full number opened now reader after_reader left rest more before after served finds)
+
+-- a line, where there is no such exit
+pub at-any : (next : Next) (number : ℕ) (opened now : WireView) (reader after_reader : ReaderView) (left rest more before after : Option (List ℕ)) → exit_at next number ≡ None → (served : Served number opened now reader left rest before after) → after_reader.given ≤ most_bytes →
+    Finds (Ok next) reader after_reader rest more → AtLine served.raws after_reader.line left more
+at-any Line number opened now reader after_reader left rest more before after same served within finds = at-line number opened now reader after_reader left rest more before after served within finds
+at-any Last number opened now reader after_reader left rest more before after same served within finds = at-last number opened now reader after_reader left rest more before after served within finds
+at-any End number opened now reader after_reader left rest more before after same served within finds = absurd (cc)
+at-any TooLong number opened now reader after_reader left rest more before after same served within finds = absurd (cc)
+at-any Full number opened now reader after_reader left rest more before after same served within finds = absurd (cc)
+
+-- a line behind which there may be more
+pub ended-line : (next : Next) (number : ℕ) → exit_at next number ≡ None → (next ≡ Last → ⊥) → next ≡ Line
+ended-line Line number same other = refl
+ended-line Last number same other = absurd (other refl)
+ended-line End number same other = absurd (cc)
+ended-line TooLong number same other = absurd (cc)
+ended-line Full number same other = absurd (cc)
