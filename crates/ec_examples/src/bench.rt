@@ -45,6 +45,12 @@ pub fn changed_byte_that_is_seen()
         (Accesses (PortIn 0x204)) (Step (Access (PortIn 0x204)) 0 0 0xFF Whole ∷ []) (unarmed (powered e64 Lpc) 0 0) }
 {}
 
+/// A changed byte that is due at a wait is dropped.
+pub fn changed_byte_at_a_wait()
+    ensures { Played (record (unarmed (powered e64 Lpc) 0 0) { armed = record { left = 1; event = Byte 0x77 } ∷ [] })
+        Waits (waited ∷ []) (unarmed (stepped (powered e64 Lpc) Tick).table 0 0) }
+{}
+
 /// The pin goes off now: no armed event falls, and none comes nearer.
 pub fn event_beside_armed_ones()
     ensures { Played (record (unarmed (powered e64 Lpc) 0 0) {
@@ -84,6 +90,13 @@ pub fn armed_cut_in_the_second_of_three_pieces()
 pub fn armed_cut_behind_a_write()
     ensures { Played (record (unarmed write_waits 0 0) { cut = Some (record { left = 5; torn = 0xA5 ∷ 0xA5 ∷ [] }) }) Waits
         (waited ∷ []) (record (unarmed (stepped write_waits Tick).table 0 0) { cut = Some (record { left = 2; torn = 0xA5 ∷ 0xA5 ∷ [] }) }) }
+{}
+
+/// With nothing armed, power is lost inside the write only where the flash counted a cut of its own.
+pub fn cut_of_the_flash_itself()
+    ensures counted { Played (unarmed write_waits 0 0) Waits (Step Tick 0 0 0 Cut ∷ []) (unarmed (off_table torn_in_the_second true Lpc) 0 1) }
+    ensures uncounted { ¬ Played (unarmed write_waits 0 0) Waits (Step Tick 0 0 0 Cut ∷ [])
+        (unarmed (off_table torn_in_the_second true Lpc) 0 0) }
 {}
 
 /// A new cut takes the place of the armed one, and 0 disarms it, so that the write passes.

@@ -1,5 +1,6 @@
 -- A bench: a controller with armed events and an armed cut, and the calls on it.
 use Rattle.std.specs.Prelude.{ℕ, ◌-◌, ◌==◌, Bool, nat_le, nat_lt, if◌then◌else◌, List, [], ◌∷◌, ◌++◌, length, Option, Some, None}
+use Rattle.flash_dev.specs.Counts.{Rose}
 use Rattle.ec_model.specs.declared.event.Access.{Access}
 use Rattle.ec_model.specs.declared.event.Event.{Event}
 use Rattle.ec_model.specs.declared.event.Event.TheVariants as event
@@ -28,6 +29,11 @@ pub record Bench : Type 0 where
 -- a bench with nothing armed, whose flash counted so much
 abbrev pub unarmed : Table → (faults cuts : ℕ) → Bench
 unarmed table faults cuts = record { table = table; armed = []; cut = None; faults = faults; cuts = cuts }
+
+-- between two benches the flash counted neither a fault nor a cut of its own
+pub record CountsNothing (old new : Bench) : Type 0 where
+  pub faults : ¬ Rose old.faults new.faults
+  pub cuts : ¬ Rose old.cuts new.cuts
 
 -- a call on the bench: an access or a wait of the host, an event of the world now, the mark of a line, an event that is
 -- armed or refused, or a cut that is armed
