@@ -6,21 +6,7 @@ use Rattle.std.proofs.Math.Seq.{take-append-add}
 use borrow.Rule.Slice.PartMut.{put_mid, post_of}
 use Rattle.flash_dev.specs.Told.{Changes}
 use Rattle.bench_io.specs.Streams.{Gives}
-use Rattle.ecbench.specs.Reading.{Takes}
-
--- no bytes
-pub Takes-nothing : (left : Option (List ℕ)) → Takes [] left left
-Takes-nothing None = tt
-Takes-nothing (Some left) = refl
-
--- bytes behind others
-pub Takes-then : (first second : List ℕ) (old middle new : Option (List ℕ)) → Takes first old middle → Takes second middle new → Takes (first ++ second) old new
-Takes-then first second None None None once again = tt
-Takes-then first second None None (Some new) once again = again
-Takes-then first second None (Some middle) new once again = absurd once
-Takes-then first second (Some old) None new once again = absurd once
-Takes-then first second (Some old) (Some middle) None once again = again
-Takes-then first second (Some old) (Some middle) (Some new) once again = append_assoc first second new ∙ ap (λ (rest : List ℕ). first ++ rest) again ∙ once
+use Rattle.line_reader.specs.Taking.{Takes}
 
 -- one read
 pub Gives-takes : (count : ℕ) (buffer : List ℕ) (old new : Option (List ℕ)) → Changes (Gives (Ok count) buffer) old new → Takes (take count buffer) old new

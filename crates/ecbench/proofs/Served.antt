@@ -11,7 +11,7 @@ use Rattle.ec_wire.specs.Calls.{WireView, with_spare}
 use Rattle.host_transport.specs.Once.{AskedOnce}
 use Rattle.ecbench.specs.declared.run.Exit.{Exit}
 use Rattle.ecbench.specs.declared.run.Exit.TheVariants.{Done, BadWords, BadFlash, BadLine, SourceFault, SinkFault, NoMemory}
-use Rattle.ecbench.specs.Reading.{Takes}
+use Rattle.line_reader.specs.Taking.{Takes}
 use Rattle.ecbench.specs.Hello.{IsHello, hello_request}
 use Rattle.ecbench.specs.Endings.{power_on, OnlyPowered, Carried, IsStarted, Ends}
 use Rattle.ecbench.specs.Serving.{PowersOn, CarriesLine, Drives}

@@ -1,10 +1,6 @@
--- What was taken from a source, and what was added to a sink.
+-- What was added to a sink in several calls.
 use Rattle.std.specs.Prelude.{◌≡◌, ◌<◌, ℕ, List, ◌++◌, length, take, Option}
 use Rattle.flash_dev.specs.Told.{Changes}
-
--- these bytes were taken from the front of what was left, where that is told
-abbrev pub Takes : List ℕ → Option (List ℕ) → Option (List ℕ) → Type 0
-Takes bytes = Changes (λ old new. bytes ++ new ≡ old)
 
 -- these bytes were added, where that is told
 abbrev pub Appends : List ℕ → Option (List ℕ) → Option (List ℕ) → Type 0

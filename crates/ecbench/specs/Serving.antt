@@ -8,7 +8,8 @@ use Rattle.bench_wire.specs.Adding.{Adds}
 use Rattle.host_transport.specs.Once.{Ending, AsksOnce}
 use Rattle.ecbench.specs.declared.run.Exit.{Exit}
 use Rattle.ecbench.specs.declared.run.Exit.TheVariants.{Done, BadLine, SourceFault, SinkFault, NoMemory}
-use Rattle.ecbench.specs.Reading.{Appends, AppendsFront, Takes}
+use Rattle.line_reader.specs.Taking.{Takes}
+use Rattle.ecbench.specs.Reading.{Appends, AppendsFront}
 use Rattle.ecbench.specs.Texts.{printed, answer_text}
 use Rattle.ecbench.specs.Hello.{IsHello, hello_request, hello_text}
 use Rattle.ecbench.specs.Endings.{power_on}

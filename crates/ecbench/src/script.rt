@@ -1,7 +1,7 @@
 // The script: so far it is the one line `hello`.
 ghost use Rattle.std.specs.Prelude.{◌≡◌, ◌≤◌, ◌<◌, ◌↔◌, [], length, take, IsTrue, IfOk, IfSome};
 ghost use Rattle.flash_dev.specs.Counts.{HasFaults};
-ghost use Rattle.ecbench.specs.Reading.{Takes};
+ghost use Rattle.line_reader.specs.Taking.{Takes};
 ghost use Rattle.ecbench.specs.Hello.{IsHello};
 
 use bench_io::Source;

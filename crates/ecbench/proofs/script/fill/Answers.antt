@@ -1,6 +1,7 @@
 use Rattle.std.proofs.Common.{◌-◌, ◌≤◌, ◌++◌, length, length-append, length-take, take, arith}
 use borrow.Rule.Slice.PartMut.{post_of}
-use Rattle.ecbench.proofs.Filling.{Takes-then, Gives-takes, take-more_read}
+use Rattle.line_reader.proofs.Takings.{Takes-then}
+use Rattle.ecbench.proofs.Filling.{Gives-takes, take-more_read}
 use Rattle.ecbench.proofs.script.fill.Goals as goal
 
 pub loop-filled-preserved : goal.loop-filled-preserved

@@ -1,5 +1,5 @@
 use Rattle.std.proofs.Common.{◌-◌, ◌≤◌, length, take}
-use Rattle.ecbench.specs.Reading.{Takes}
+use Rattle.line_reader.specs.Taking.{Takes}
 use Rattle.ecbench.proofs.script.fill.Given as goal
 
 abbrev pub invariant-loop-filled : goal.invariant-loop-filled
