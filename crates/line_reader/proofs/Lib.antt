@@ -1,3 +1,4 @@
 pub mod Takings
 pub mod Chunks
 pub mod Reading
+pub mod Splitting

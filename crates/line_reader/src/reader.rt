@@ -11,7 +11,10 @@ use bench_io::Source;
 use flash_dev::Failed;
 use std::marker::Model;
 
-/// What a call for the next line found. Only after `Line` can there be more lines.
+/// The most bytes that a line has without its end.
+const LONGEST_LINE: usize = 16_384;
+
+/// What a call for the next line found.
 #[derive(Clone, Copy, Debug, PartialEq, Eq)]
 pub enum Next {
     /// A line that a line feed ends.
@@ -60,7 +63,7 @@ impl LineReader {
         self.line.as_slice()
     }
 
-    /// Reads the next line.
+    /// Reads the next line. After any answer but `Line` the reader is done with.
     pub fn next<S: Source>(&mut self, source: &mut S) -> Result<Next, Failed>
         ensures finds { Finds result self.old self.new (S.left source.old) (S.left source.new) }
         ensures within { IsWithin self.new.ahead self.new.given }
@@ -93,7 +96,7 @@ fn end_line(line: &mut ArrayVec<u8, 16385>) -> Next
     if line.as_slice().ends_with(b"\r") {
         line.pop();
     }
-    if line.len() <= 16384 {
+    if is_short_enough(line.as_slice()) {
         Next::Line
     } else {
         Next::TooLong
@@ -106,7 +109,7 @@ fn last_line(line: &[u8]) -> Next
 {
     if line.is_empty() {
         Next::End
-    } else if line.len() <= 16384 {
+    } else if is_short_enough(line) {
         Next::Last
     } else {
         Next::TooLong
@@ -117,9 +120,16 @@ fn last_line(line: &[u8]) -> Next
 fn cut_line(line: &[u8]) -> Next
     ensures { result ≡ (if nat_le (length line.now) longest_line then Next.Full else Next.TooLong) }
 {
-    if line.len() <= 16384 {
+    if is_short_enough(line) {
         Next::Full
     } else {
         Next::TooLong
     }
+}
+
+// Whether a line has no more bytes than a line may have.
+fn is_short_enough(line: &[u8]) -> bool
+    ensures { result ≡ nat_le (length line.now) longest_line }
+{
+    line.len() <= LONGEST_LINE
 }
