@@ -10,7 +10,7 @@ use ec_params::{
 };
 
 /// The commands that only ask, and read no byte of the flash.
-#[derive(Clone, Copy, Debug, PartialEq, Eq)]
+#[derive(Clone, Copy)]
 pub enum Question {
     Proto,
     Hello(HelloAsk),
