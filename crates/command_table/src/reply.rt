@@ -1,10 +1,8 @@
 // Replies.
 ghost use Rattle.std.specs.Prelude.{◌≡◌, []};
-ghost use Rattle.ec_types.specs.LittleEndian.{u32_bytes};
 ghost use Rattle.ec_model.specs.declared.event.Hurt.TheVariants.{Whole};
 ghost use Rattle.command_table.specs.Leaves.{end_status};
 
-use byteorder::{ByteOrder, LittleEndian};
 use ec_model::Hurt;
 use ec_packet::Packet;
 
@@ -54,15 +52,12 @@ impl Reply {
         self.hurt = hurt;
     }
 
-    // Success with a number.
-    pub(crate) fn say_number(&mut self, number: u32)
+    // Success, with no body yet.
+    pub(crate) fn succeed(&mut self)
         ensures status { self.new.status ≡ 0 }
-        ensures body { self.new.body ≡ u32_bytes number }
+        ensures body { self.new.body ≡ [] }
         ensures hurt { self.new.hurt ≡ Whole }
     {
-        let mut bytes = [0; 4];
-        LittleEndian::write_u32(&mut bytes, number);
         self.end(Hurt::Whole);
-        self.body.extend(&bytes);
     }
 }

@@ -1,8 +1,8 @@
 // The checks before a command's row: framing, command, version, pending erase, body.
 ghost use Rattle.std.specs.Prelude.{◌≡◌, [], ◌∷◌, ◌++◌, replicate};
-ghost use Rattle.ec_model.specs.Commands.{line, FlashErase, Comms, Resend};
+ghost use Rattle.ec_model.specs.Commands.{line, CmdVersions, FlashErase, Comms, RegionInfo, Resend};
 ghost use Rattle.ec_model.specs.Packet.{request_packet};
-ghost use Rattle.ec_model.specs.Bodies.{hello_ask};
+ghost use Rattle.ec_model.specs.Bodies.{hello_ask, cmd_versions_ask0, cmd_versions_ask1, region_info_ask};
 ghost use Rattle.ec_model.specs.Handle.{asked, admitted_by};
 ghost use Rattle.ec_model.specs.WholeStep.{with_job};
 ghost use Rattle.ec_examples.specs.Flashes.{e64};
@@ -35,4 +35,23 @@ pub fn bodies_of_another_length()
     ensures short { asked (on e64) (request_packet 1 0 (1 ∷ 2 ∷ 3 ∷ [])) ≡ Err 3 }
     ensures long { asked (on e64) (request_packet 1 0 (1 ∷ 2 ∷ 3 ∷ 4 ∷ 5 ∷ [])) ≡ Err 3 }
     ensures write { asked (on e64) (request_packet 0x12 1 (replicate 4 0 ++ 8 ∷ replicate 7 0)) ≡ Err 3 }
+{}
+
+/// A version that a command does not offer is refused before its body is looked at: FLASH_REGION_INFO has no version 0.
+pub fn versions_that_are_offered()
+    ensures refused { asked (on e64) (request_packet 0x16 0 (1 ∷ [])) ≡ Err 6 }
+    ensures offered { asked (on e64) (request_packet 0x16 1 (region_info_ask 2)) ≡
+        Ok (record { command = RegionInfo; version = 1; body = region_info_ask 2 }) }
+    ensures later { asked (on e64) (request_packet 0x10 2 []) ≡ Err 6 }
+{}
+
+/// The body of GET_CMD_VERSIONS has one byte in version 0 and two in version 1.
+pub fn bodies_by_their_version()
+    ensures one { asked (on e64) (request_packet 0x08 0 (cmd_versions_ask0 1)) ≡
+        Ok (record { command = CmdVersions; version = 0; body = 1 ∷ [] }) }
+    ensures two { asked (on e64) (request_packet 0x08 1 (cmd_versions_ask1 1)) ≡
+        Ok (record { command = CmdVersions; version = 1; body = 1 ∷ 0 ∷ [] }) }
+    ensures short { asked (on e64) (request_packet 0x08 1 (cmd_versions_ask0 1)) ≡ Err 3 }
+    ensures long { asked (on e64) (request_packet 0x08 0 (cmd_versions_ask1 1)) ≡ Err 3 }
+    ensures none { asked (on e64) (request_packet 0x0B 0 (0 ∷ [])) ≡ Err 3 }
 {}

@@ -28,7 +28,8 @@ pub use bench::{
     two_events_and_a_changed_byte,
 };
 pub use checks::{
-    bodies_of_another_length, checks_in_their_order, commands_while_an_erase_is_pending,
+    bodies_by_their_version, bodies_of_another_length, checks_in_their_order,
+    commands_while_an_erase_is_pending, versions_that_are_offered,
 };
 pub use erases::{erase_of_eight_blocks, responses_with_no_data, saved_status_is_told_once};
 pub use flash::{

@@ -22,11 +22,14 @@ pub fn fixed_answers()
         (0, 0 ∷ 0 ∷ 1 ∷ 0 ∷ 4 ∷ 0 ∷ 0 ∷ 0 ∷ 0 ∷ 0x10 ∷ 0 ∷ 0 ∷ 0 ∷ 0x10 ∷ 0 ∷ 0 ∷ 64 ∷ 0 ∷ 0 ∷ 0 ∷ 0 ∷ 0 ∷ 0 ∷ 0 ∷ []) ∷ [] }
 {}
 
-/// The versions of a command: FLASH_WRITE has 0 and 1, HELLO has 0, and 0xFFF is no command.
+/// The versions of a command: FLASH_WRITE and GET_CMD_VERSIONS have 0 and 1, HELLO has 0, FLASH_REGION_INFO has 1 alone, and
+/// 0xFFF is no command.
 pub fn versions_of_commands()
     ensures { replies ((CmdVersions, 0, cmd_versions_ask0 0x12) ∷ (CmdVersions, 1, cmd_versions_ask1 0x12) ∷ (CmdVersions, 1, cmd_versions_ask1 0x01) ∷
-        (CmdVersions, 1, cmd_versions_ask1 0xFFF) ∷ []) (on e64) ≡
-        (0, 3 ∷ 0 ∷ 0 ∷ 0 ∷ []) ∷ (0, 3 ∷ 0 ∷ 0 ∷ 0 ∷ []) ∷ (0, 1 ∷ 0 ∷ 0 ∷ 0 ∷ []) ∷ (3, []) ∷ [] }
+        (CmdVersions, 1, cmd_versions_ask1 0x16) ∷ (CmdVersions, 0, cmd_versions_ask0 0x08) ∷ (CmdVersions, 1, cmd_versions_ask1 0xFFF) ∷ [])
+        (on e64) ≡
+        (0, 3 ∷ 0 ∷ 0 ∷ 0 ∷ []) ∷ (0, 3 ∷ 0 ∷ 0 ∷ 0 ∷ []) ∷ (0, 1 ∷ 0 ∷ 0 ∷ 0 ∷ []) ∷ (0, 2 ∷ 0 ∷ 0 ∷ 0 ∷ []) ∷ (0, 3 ∷ 0 ∷ 0 ∷ 0 ∷ []) ∷
+        (3, []) ∷ [] }
 {}
 
 /// The regions: RO without the stored protection, RW twice, and all that write protection guards.

@@ -108,6 +108,13 @@ impl<'a> Columns<'a> {
         bytes
     }
 
+    // The bytes that are left, where they stand.
+    pub fn all(&self) -> &'a [u8]
+        ensures { result.now ≡ self.now }
+    {
+        self.rest
+    }
+
     // The bytes that are left.
     pub fn rest(&self) -> Packet
         requires { length self.now ≤ 544 }

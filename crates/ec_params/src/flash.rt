@@ -207,7 +207,27 @@ impl FlashReadSay {
         requires short { length self.now.bytes ≤ 536 }
         ensures { out.new ≡ out.old ++ flash_read_say self.now.bytes }
     {
-        out.extend(self.bytes.as_slice());
+        let say = FlashReadSayRef {
+            bytes: self.bytes.as_slice(),
+        };
+        say.write(out);
+    }
+}
+
+/// FLASH_READ's reply, with its bytes where they were read.
+#[derive(Clone, Copy)]
+pub struct FlashReadSayRef<'a> {
+    /// The bytes that were read.
+    pub bytes: &'a [u8],
+}
+
+impl<'a> FlashReadSayRef<'a> {
+    /// Appends the bytes.
+    pub fn write(&self, out: &mut Packet)
+        requires { length out.old + length self.now.bytes.now ≤ 544 }
+        ensures { out.new ≡ out.old ++ flash_read_say self.now.bytes.now }
+    {
+        out.extend(self.bytes);
     }
 }
 
@@ -230,18 +250,13 @@ impl FlashWriteAsk {
             bytes.now ≡ flash_write_ask offset written →
             IsSomeAnd result (λ ask. (ask.offset ≡ offset) × (ask.bytes ≡ written)) }
     {
-        if bytes.len() < 8 || bytes.len() > 536 {
+        if bytes.len() > 536 {
             return None;
         }
-        let mut columns = Columns::new(bytes);
-        let offset = columns.u32();
-        let size = columns.u32();
-        if bytes.len() != 8 + size as usize {
-            return None;
-        }
+        let ask = FlashWriteAskRef::read(bytes)?;
         Some(FlashWriteAsk {
-            offset,
-            bytes: columns.rest(),
+            offset: ask.offset,
+            bytes: Columns::new(ask.bytes).rest(),
         })
     }
 
@@ -254,5 +269,40 @@ impl FlashWriteAsk {
         put_u32(out, self.offset);
         put_u32(out, self.bytes.len() as u32);
         out.extend(self.bytes.as_slice());
+    }
+}
+
+/// FLASH_WRITE's request, of either version, with its bytes where they stand.
+#[derive(Clone, Copy)]
+pub struct FlashWriteAskRef<'a> {
+    /// Where the bytes go, from the flash's first byte.
+    pub offset: u32,
+    /// The bytes to write.
+    pub bytes: &'a [u8],
+}
+
+impl<'a> FlashWriteAskRef<'a> {
+    /// The fields that the bytes spell; None exactly where not as many bytes follow as the second number says.
+    pub fn read(bytes: &'a [u8]) -> Option<FlashWriteAskRef<'a>>
+        ensures some { IsSome result ↔ IsTrue (is_write_spelled bytes.now) }
+        ensures spelled { IfSome result (λ ask. bytes.now ≡ flash_write_ask ask.offset ask.bytes.now) }
+        ensures short { IfSome result (λ ask. 8 + length ask.bytes.now ≡ length bytes.now) }
+        ensures back { (offset : ℕ) (written : List ℕ) → offset < 2 ^ 32 → length written < 2 ^ 32 →
+            bytes.now ≡ flash_write_ask offset written →
+            IsSomeAnd result (λ ask. (ask.offset ≡ offset) × (ask.bytes.now ≡ written)) }
+    {
+        if bytes.len() < 8 {
+            return None;
+        }
+        let mut columns = Columns::new(bytes);
+        let offset = columns.u32();
+        let size = columns.u32();
+        if bytes.len() != 8 + size as usize {
+            return None;
+        }
+        Some(FlashWriteAskRef {
+            offset,
+            bytes: columns.all(),
+        })
     }
 }

@@ -15,7 +15,8 @@ mod table;
 
 pub use commands::{CmdVersionsAsk0, CmdVersionsAsk1, CmdVersionsSay, CommsSay, ProtoInfoSay};
 pub use flash::{
-    FlashEraseAsk, FlashInfoSay0, FlashInfoSay1, FlashReadAsk, FlashReadSay, FlashWriteAsk,
+    FlashEraseAsk, FlashInfoSay0, FlashInfoSay1, FlashReadAsk, FlashReadSay, FlashReadSayRef,
+    FlashWriteAsk, FlashWriteAskRef,
 };
 pub use hash::{VbootHashAsk, VbootHashSay};
 pub use hello::{HelloAsk, HelloSay, ProtoSay};

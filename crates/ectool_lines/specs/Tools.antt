@@ -1,21 +1,43 @@
 -- The lines that send commands to the controller.
-use Rattle.std.specs.Prelude.{◌≤◌, ℕ, List, [], ◌∷◌, length, codes, Result, Err, if◌then◌else◌}
+use Rattle.std.specs.Prelude.{◌≤◌, ℕ, List, [], ◌∷◌, length, codes, Option, Some, None, Result, Err, if◌then◌else◌}
+use Rattle.std.specs.Option.{ok_or}
 use Rattle.std.specs.Str.{bytes_eq}
 use Rattle.ec_types.specs.declared.why.Why.{Why}
 use Rattle.ec_types.specs.declared.why.Why.TheVariants.{Word}
+use Rattle.flash_dev.specs.declared.geometry.Region.{Region}
+use Rattle.flash_dev.specs.declared.geometry.Region.TheVariants.{Ro, Active, WpRo, Update}
 use Rattle.script_words.specs.Words.{words_of}
 use Rattle.script_words.specs.Lines.{checked}
-use Rattle.script_words.specs.Forms.{◌>>=◌, alone, with_two, number_to, hex_to}
+use Rattle.script_words.specs.Forms.{◌>>=◌, alone, with_one, with_two, with_three, number_to, hex_to}
 use Rattle.ectool_lines.specs.declared.tool.Tool.{Tool}
-use Rattle.ectool_lines.specs.declared.tool.Tool.TheVariants.{Hello, FlashRead, FlashWrite}
+use Rattle.ectool_lines.specs.declared.tool.Tool.TheVariants.{Hello, ChipInfo, CmdVersions, ProtoInfo, FlashInfo, RegionInfo, FlashRead, FlashWrite, Test}
+
+-- the region that a word names
+abbrev pub region_named : List ℕ → Option Region
+region_named word =
+    if bytes_eq word (codes "ro") then Some Ro else
+    if bytes_eq word (codes "active") then Some Active else
+    if bytes_eq word (codes "wp_ro") then Some WpRo else
+    if bytes_eq word (codes "update") then Some Update else
+    None
+
+-- a word that names a region
+abbrev pub region_to : List ℕ → Result Region Why
+region_to word = ok_or (region_named word) Word
 
 -- a line by its words: the first one, how many stand behind it, and what each of these is
 abbrev pub tool_by : List (List ℕ) → Result Tool Why
 tool_by [] = Err Word
 tool_by (first ∷ words) =
     if bytes_eq first (codes "hello") then alone Hello words else
+    if bytes_eq first (codes "chipinfo") then alone ChipInfo words else
+    if bytes_eq first (codes "cmdversions") then with_one (number_to 65535) CmdVersions words else
+    if bytes_eq first (codes "protoinfo") then alone ProtoInfo words else
+    if bytes_eq first (codes "flashinfo") then alone FlashInfo words else
+    if bytes_eq first (codes "regioninfo") then with_one region_to RegionInfo words else
     if bytes_eq first (codes "flashread") then with_two (number_to 0xFFFFFFFF) (number_to 4096) FlashRead words else
     if bytes_eq first (codes "flashwrite") then with_two (number_to 0xFFFFFFFF) (hex_to 4096) FlashWrite words else
+    if bytes_eq first (codes "test") then with_three (number_to 0xFFFFFFFF) (number_to 32) (hex_to 32) Test words else
     Err Word
 
 -- a line, or its first fault
@@ -24,6 +46,7 @@ tool_of line = checked line >>= λ _. tool_by (words_of line)
 
 -- the sizes that a line may ask for
 abbrev pub IsInRange : Tool → Type 0
-IsInRange Hello = Unit {0}
 IsInRange (FlashRead at size) = size ≤ 4096
 IsInRange (FlashWrite at bytes) = (1 ≤ length bytes) × (length bytes ≤ 4096)
+IsInRange (Test ec_result ret_len bytes) = (ret_len ≤ 32) × (1 ≤ length bytes) × (length bytes ≤ 32)
+IsInRange other = Unit {0}

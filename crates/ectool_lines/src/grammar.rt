@@ -1,12 +1,15 @@
 // Reading a line.
 ghost use Rattle.std.specs.Prelude.{◌≡◌, ◌∷◌, IfOk};
 ghost use Rattle.script_words.specs.Words.{words_of};
-ghost use Rattle.script_words.specs.Forms.{with_two, number_to, hex_to};
-ghost use Rattle.ectool_lines.specs.Tools.{tool_of, tool_by, IsInRange};
+ghost use Rattle.script_words.specs.Forms.{alone, with_one, with_two, with_three, number_to, hex_to};
+ghost use Rattle.ectool_lines.specs.Tools.{region_named, region_to, tool_of, tool_by, IsInRange};
 
 use crate::Tool;
 use ec_types::Why;
-use script_words::{check_line, hex_to, is_word, next_word, no_words, number_to, two_words};
+use flash_dev::Region;
+use script_words::{
+    check_line, hex_to, is_word, next_word, no_words, number_to, one_word, three_words, two_words,
+};
 
 /// What a line without its line feed says, or the first thing that is wrong with it: `TooLong`, `Ascii`, then `Word` where
 /// no line begins with its first word, `Count` where none with that first word has so many words, and at last `Number` or
@@ -27,15 +30,72 @@ fn by_words(first: &[u8], rest: &[u8]) -> Result<Tool, Why>
     ensures within { IfOk result IsInRange }
 {
     if is_word(first, b"hello") {
-        no_words(rest)?;
-        Ok(Tool::Hello)
+        alone(Tool::Hello, rest)
+    } else if is_word(first, b"chipinfo") {
+        alone(Tool::ChipInfo, rest)
+    } else if is_word(first, b"cmdversions") {
+        cmd_versions(rest)
+    } else if is_word(first, b"protoinfo") {
+        alone(Tool::ProtoInfo, rest)
+    } else if is_word(first, b"flashinfo") {
+        alone(Tool::FlashInfo, rest)
+    } else if is_word(first, b"regioninfo") {
+        region_info(rest)
     } else if is_word(first, b"flashread") {
         flash_read(rest)
     } else if is_word(first, b"flashwrite") {
         flash_write(rest)
+    } else if is_word(first, b"test") {
+        test(rest)
     } else {
         Err(Why::Word)
     }
+}
+
+// A first word that stands alone.
+fn alone(tool: Tool, words: &[u8]) -> Result<Tool, Why>
+    requires { IsInRange tool }
+    ensures tool { result ≡ alone tool (words_of words.now) }
+    ensures within { IfOk result IsInRange }
+{
+    no_words(words)?;
+    Ok(tool)
+}
+
+fn cmd_versions(words: &[u8]) -> Result<Tool, Why>
+    ensures tool { result ≡ with_one (number_to 65535) Tool.CmdVersions (words_of words.now) }
+    ensures within { IfOk result IsInRange }
+{
+    let number = one_word(words)?;
+    Ok(Tool::CmdVersions {
+        number: number_to(number, 65535)? as u16,
+    })
+}
+
+// The region that a word names.
+fn region_named(word: &[u8]) -> Option<Region>
+    ensures { result ≡ region_named word.now }
+{
+    if is_word(word, b"ro") {
+        Some(Region::Ro)
+    } else if is_word(word, b"active") {
+        Some(Region::Active)
+    } else if is_word(word, b"wp_ro") {
+        Some(Region::WpRo)
+    } else if is_word(word, b"update") {
+        Some(Region::Update)
+    } else {
+        None
+    }
+}
+
+fn region_info(words: &[u8]) -> Result<Tool, Why>
+    ensures tool { result ≡ with_one region_to Tool.RegionInfo (words_of words.now) }
+    ensures within { IfOk result IsInRange }
+{
+    let word = one_word(words)?;
+    let region = region_named(word).ok_or(Why::Word)?;
+    Ok(Tool::RegionInfo { region })
 }
 
 fn flash_read(words: &[u8]) -> Result<Tool, Why>
@@ -57,5 +117,17 @@ fn flash_write(words: &[u8]) -> Result<Tool, Why>
     Ok(Tool::FlashWrite {
         at: number_to(at, u32::MAX)?,
         bytes: hex_to(bytes, 4096)?,
+    })
+}
+
+fn test(words: &[u8]) -> Result<Tool, Why>
+    ensures tool { result ≡ with_three (number_to 4294967295) (number_to 32) (hex_to 32) Tool.Test (words_of words.now) }
+    ensures within { IfOk result IsInRange }
+{
+    let (ec_result, ret_len, bytes) = three_words(words)?;
+    Ok(Tool::Test {
+        ec_result: number_to(ec_result, u32::MAX)?,
+        ret_len: number_to(ret_len, 32)?,
+        bytes: hex_to(bytes, 32)?,
     })
 }

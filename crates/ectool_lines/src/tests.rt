@@ -1,6 +1,7 @@
 // Lines of scripts, and what is wrong with others.
 use crate::{Tool, parse};
 use ec_types::Why;
+use flash_dev::Region;
 
 #[test]
 fn lines_are_read(rt: HostRuntime) {
@@ -30,6 +31,41 @@ fn lines_are_read(rt: HostRuntime) {
 }
 
 #[test]
+fn questions_are_read(rt: HostRuntime) {
+    assert!(rt; matches!(parse(b"chipinfo"), Ok(Tool::ChipInfo)));
+    assert!(rt;
+        matches!(
+            parse(b"cmdversions 65535"),
+            Ok(Tool::CmdVersions { number: 65535 })
+        )
+    );
+    assert!(rt; matches!(parse(b"protoinfo"), Ok(Tool::ProtoInfo)));
+    assert!(rt; matches!(parse(b"flashinfo"), Ok(Tool::FlashInfo)));
+    assert!(rt;
+        matches!(
+            parse(b"regioninfo wp_ro"),
+            Ok(Tool::RegionInfo {
+                region: Region::WpRo
+            })
+        )
+    );
+    match parse(b"test 0x10 4 0a0b") {
+        Ok(
+            Tool::Test {
+                ec_result,
+                ret_len,
+                bytes,
+            },
+        ) => {
+            assert_eq!(rt; ec_result, 16);
+            assert_eq!(rt; ret_len, 4);
+            assert_eq!(rt; bytes.as_slice(), [10, 11].as_slice());
+        }
+        _ => assert!(rt; false),
+    }
+}
+
+#[test]
 fn the_first_fault_counts(rt: HostRuntime) {
     assert!(rt; matches!(parse(&[b'\t'; 16_385]), Err(Why::TooLong)));
     assert!(rt; matches!(parse(&[b'a'; 16_385]), Err(Why::TooLong)));
@@ -43,4 +79,9 @@ fn the_first_fault_counts(rt: HostRuntime) {
     assert!(rt; matches!(parse(b"flashread 4294967296 0"), Err(Why::Number)));
     assert!(rt; matches!(parse(b"flashwrite 0x 0"), Err(Why::Number)));
     assert!(rt; matches!(parse(b"flashwrite 0 012"), Err(Why::Hex)));
+    assert!(rt; matches!(parse(b"cmdversions 65536"), Err(Why::Number)));
+    assert!(rt; matches!(parse(b"regioninfo RO"), Err(Why::Word)));
+    assert!(rt; matches!(parse(b"regioninfo"), Err(Why::Count)));
+    assert!(rt; matches!(parse(b"test 0 33 x"), Err(Why::Number)));
+    assert!(rt; matches!(parse(b"test 0 32 x"), Err(Why::Hex)));
 }

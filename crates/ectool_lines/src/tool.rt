@@ -1,11 +1,27 @@
 // What a line asks of the controller.
 use ec_types::LineBytes;
+use flash_dev::Region;
 
 /// A line that sends commands to the controller, with its numbers and bytes.
 #[derive(Drop)]
 pub enum Tool {
     /// `hello`
     Hello,
+    /// `chipinfo`
+    ChipInfo,
+    /// `cmdversions N`
+    CmdVersions {
+        /// A command's number.
+        number: u16,
+    },
+    /// `protoinfo`
+    ProtoInfo,
+    /// `flashinfo`
+    FlashInfo,
+    /// `regioninfo R`
+    RegionInfo {
+        region: Region,
+    },
     /// `flashread O N`
     FlashRead {
         /// The first byte to read, from the flash's first byte.
@@ -18,6 +34,15 @@ pub enum Tool {
         /// Where the first byte goes, from the flash's first byte.
         at: u32,
         /// At least one byte, and at most 4,096.
+        bytes: LineBytes,
+    },
+    /// `test R N HEX`
+    Test {
+        /// The status that is wanted.
+        ec_result: u32,
+        /// How many bytes are wanted back, at most 32.
+        ret_len: u32,
+        /// At least one byte, and at most 32.
         bytes: LineBytes,
     },
 }

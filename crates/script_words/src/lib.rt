@@ -9,7 +9,7 @@ mod words;
 pub use hexes::{hex_bytes, hex_to};
 pub use line::{check_line, is_idle};
 pub use numbers::{number, number_to};
-pub use words::{is_word, next_word, no_words, two_words};
+pub use words::{is_word, next_word, no_words, one_word, three_words, two_words};
 
 #[cfg(test)]
 mod tests;

@@ -2,7 +2,7 @@
 ghost use Rattle.std.specs.Prelude.{◌≡◌, ◌<◌, ◌≤◌, ℕ, [], ◌∷◌, MatchOption, MatchResult, length, slice_index};
 ghost use Rattle.std.specs.Str.{bytes_eq};
 ghost use Rattle.script_words.specs.Words.{words_of};
-ghost use Rattle.script_words.specs.Forms.{no_words, two_words};
+ghost use Rattle.script_words.specs.Forms.{no_words, one_word, two_words, three_words};
 
 use ec_types::Why;
 
@@ -34,6 +34,15 @@ pub fn no_words(line: &[u8]) -> Result<(), Why>
     }
 }
 
+/// The one word; `Count` exactly where there is not one.
+pub fn one_word(line: &[u8]) -> Result<&[u8], Why>
+    ensures { MatchResult result (λ word. one_word (words_of line.now) ≡ Ok word.now) (λ why. one_word (words_of line.now) ≡ Err why) }
+{
+    let (word, after) = next_word(line).ok_or(Why::Count)?;
+    no_words(after)?;
+    Ok(word)
+}
+
 /// The two words; `Count` exactly where there are not two.
 pub fn two_words(line: &[u8]) -> Result<(&[u8], &[u8]), Why>
     ensures { MatchResult result (λ pair. two_words (words_of line.now) ≡ Ok (pair.0.now, pair.1.now))
@@ -43,6 +52,16 @@ pub fn two_words(line: &[u8]) -> Result<(&[u8], &[u8]), Why>
     let (second, rest) = next_word(rest).ok_or(Why::Count)?;
     no_words(rest)?;
     Ok((first, second))
+}
+
+/// The three words; `Count` exactly where there are not three.
+pub fn three_words(line: &[u8]) -> Result<(&[u8], &[u8], &[u8]), Why>
+    ensures { MatchResult result (λ words. three_words (words_of line.now) ≡ Ok (words.0.now, words.1.now, words.2.now))
+        (λ why. three_words (words_of line.now) ≡ Err why) }
+{
+    let (first, rest) = next_word(line).ok_or(Why::Count)?;
+    let (second, third) = two_words(rest)?;
+    Ok((first, second, third))
 }
 
 // The line from its first word on.

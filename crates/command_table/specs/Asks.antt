@@ -1,0 +1,61 @@
+-- What the code reads in a request.
+use Rattle.std.specs.Prelude.{◌≡◌, ℕ, ◌==◌, if◌then◌else◌, List, [], IsTrue, IsFalse, Option, Some, None, Result, Ok, Err}
+use Rattle.ec_model.specs.Commands.{Command, CommandLine, is_spelled, Proto, Hello, Chip, CmdVersions, Test, ProtoInfo, FlashInfo, FlashRead, FlashWrite, RegionInfo}
+use Rattle.ec_model.specs.Bodies.{hello_ask, cmd_versions_ask0, cmd_versions_ask1, test_ask, region_info_ask, flash_read_ask, flash_write_ask}
+use Rattle.ec_model.specs.Packet.{RequestView}
+use Rattle.ec_model.specs.Handle.{Admitted}
+use Rattle.command_table.specs.declared.asks.Question.{Question}
+use Rattle.command_table.specs.declared.asks.Question.TheVariants.{Proto as AsksProto, Hello as AsksHello, Chip as AsksChip, CmdVersions as AsksVersions, Test as AsksTest, ProtoInfo as AsksProtoInfo, FlashInfo as AsksFlashInfo, RegionInfo as AsksRegion}
+use Rattle.command_table.specs.declared.asks.Ask.{Ask}
+use Rattle.command_table.specs.declared.asks.Ask.TheVariants.{Question as Asks, FlashRead as AsksRead, FlashWrite as AsksWrite}
+
+-- the command of a question
+abbrev pub question_command : Question → Command
+question_command AsksProto = Proto
+question_command (AsksHello ask) = Hello
+question_command AsksChip = Chip
+question_command (AsksVersions command) = CmdVersions
+question_command (AsksTest ask) = Test
+question_command AsksProtoInfo = ProtoInfo
+question_command AsksFlashInfo = FlashInfo
+question_command (AsksRegion ask) = RegionInfo
+
+-- the command that is asked
+abbrev pub command_of : Ask → Command
+command_of (Asks question) = question_command question
+command_of (AsksRead ask) = FlashRead
+command_of (AsksWrite ask) = FlashWrite
+
+-- the body that names a command, in each version
+abbrev pub named : ℕ → ℕ → List ℕ
+named version command = if version == 0 then cmd_versions_ask0 command else cmd_versions_ask1 command
+
+-- the body that spells a question
+abbrev pub question_body : ℕ → Question → List ℕ
+question_body version (AsksHello ask) = hello_ask ask.x
+question_body version (AsksVersions command) = named version command
+question_body version (AsksTest ask) = test_ask ask.ec_result ask.ret_len ask.buf
+question_body version (AsksRegion ask) = region_info_ask ask.region
+question_body version other = []
+
+-- the body that spells what is asked
+abbrev pub body_of : ℕ → Ask → List ℕ
+body_of version (Asks question) = question_body version question
+body_of version (AsksRead ask) = flash_read_ask ask.offset ask.size
+body_of version (AsksWrite ask) = flash_write_ask ask.offset ask.bytes.now
+
+-- what a body says to the command of a line: nothing exactly where it is no spelling
+abbrev pub IsReadAs : Option CommandLine → ℕ → List ℕ → Option Ask → Type 0
+IsReadAs None version body result = Unit {0}
+IsReadAs (Some found) version body None = IsFalse (is_spelled found.command version body)
+IsReadAs (Some found) version body (Some ask) = IsTrue (is_spelled found.command version body) × (command_of ask ≡ found.command) × (body ≡ body_of version ask)
+
+-- a request that passed the checks
+pub record IsPassed (request : RequestView) (found : Result Admitted ℕ) (ask : Ask) : Type 0 where
+  pub same : found ≡ Ok (record { command = command_of ask; version = request.version; body = body_of request.version ask })
+  pub spelled : request.body ≡ body_of request.version ask
+
+-- a request that passed the checks, or the status of the first that failed
+abbrev pub IsAdmittedAs : RequestView → Result Admitted ℕ → Result Ask ℕ → Type 0
+IsAdmittedAs request found (Ok ask) = IsPassed request found ask
+IsAdmittedAs request found (Err status) = found ≡ Err status

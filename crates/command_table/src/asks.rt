@@ -1,0 +1,75 @@
+// What a request asks: its command, with the fields of its body.
+ghost use Rattle.std.specs.Prelude.{◌≡◌, ◌==◌, ◌↔◌, if◌then◌else◌, length, IsSome, IfSome};
+ghost use Rattle.ec_model.specs.Commands.{line_of};
+ghost use Rattle.command_table.specs.declared.asks.Ask.TheVariants.{Question as Asks};
+ghost use Rattle.command_table.specs.Asks.{named, IsReadAs};
+
+use ec_params::{
+    CmdVersionsAsk0, CmdVersionsAsk1, FlashReadAsk, FlashWriteAskRef, HelloAsk, RegionInfoAsk,
+    TestAsk,
+};
+
+/// The commands that only ask, and read no byte of the flash.
+#[derive(Clone, Copy)]
+pub enum Question {
+    Proto,
+    Hello(HelloAsk),
+    Chip,
+    /// Of the command with this number.
+    CmdVersions(u16),
+    Test(TestAsk),
+    ProtoInfo,
+    FlashInfo,
+    RegionInfo(RegionInfoAsk),
+}
+
+/// The commands that are built.
+#[derive(Clone, Copy)]
+pub enum Ask<'a> {
+    Question(Question),
+    FlashRead(FlashReadAsk),
+    FlashWrite(FlashWriteAskRef<'a>),
+}
+
+// A question whose body is empty.
+fn alone<'a>(body: &'a [u8], question: Question) -> Option<Ask<'a>>
+    ensures some { IsSome result ↔ (length body.now ≡ 0) }
+    ensures same { IfSome result (λ ask. ask ≡ Asks question) }
+{
+    if body.is_empty() {
+        Some(Ask::Question(question))
+    } else {
+        None
+    }
+}
+
+// The command whose versions are asked for.
+fn named(version: u8, body: &[u8]) -> Option<u16>
+    ensures some { IsSome result ↔ (length body.now ≡ (if version == 0 then 1 else 2)) }
+    ensures spelled { IfSome result (λ command. body.now ≡ named version command) }
+{
+    if version == 0 {
+        Some(u16::from(CmdVersionsAsk0::read(body)?.command))
+    } else {
+        Some(CmdVersionsAsk1::read(body)?.command)
+    }
+}
+
+/// What a body says to the command of a number; None where it is no spelling, and where no command has the number.
+pub fn ask_of<'a>(command: u16, version: u8, body: &'a [u8]) -> Option<Ask<'a>>
+    ensures { IsReadAs (line_of command) version body.now result }
+{
+    match command {
+        0x0000 => alone(body, Question::Proto),
+        0x0001 => Some(Ask::Question(Question::Hello(HelloAsk::read(body)?))),
+        0x0005 => alone(body, Question::Chip),
+        0x0008 => Some(Ask::Question(Question::CmdVersions(named(version, body)?))),
+        0x000A => Some(Ask::Question(Question::Test(TestAsk::read(body)?))),
+        0x000B => alone(body, Question::ProtoInfo),
+        0x0010 => alone(body, Question::FlashInfo),
+        0x0011 => Some(Ask::FlashRead(FlashReadAsk::read(body)?)),
+        0x0012 => Some(Ask::FlashWrite(FlashWriteAskRef::read(body)?)),
+        0x0016 => Some(Ask::Question(Question::RegionInfo(RegionInfoAsk::read(body)?))),
+        _ => None,
+    }
+}

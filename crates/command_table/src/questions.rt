@@ -1,0 +1,167 @@
+// The commands that only ask.
+ghost use Rattle.std.specs.Prelude.{◌≡◌, ◌≤◌, length};
+ghost use Rattle.ec_model.specs.declared.event.Hurt.TheVariants.{Whole};
+ghost use Rattle.ec_model.specs.Table.{Core};
+ghost use Rattle.ec_model.specs.Bodies.{hello_ask, test_ask, region_info_ask};
+ghost use Rattle.ec_model.specs.Answer.{Answered};
+ghost use Rattle.ec_model.specs.InfoRows.{zero_padded, hello_row, chip_row, mask_told, test_row, flash_info_row, region_info_row};
+ghost use Rattle.ec_model.specs.Commands.{known};
+ghost use Rattle.ec_model.specs.Handle.{row};
+ghost use Rattle.command_table.specs.Asks.{question_command, question_body};
+
+use crate::Reply;
+use crate::asks::Question;
+use ec_packet::Packet;
+use ec_params::{
+    ChipSay, CmdVersionsSay, FlashInfoSay0, FlashInfoSay1, HelloSay, ProtoInfoSay, ProtoSay,
+    RegionInfoSay, TestAsk, TestSay, known,
+};
+use flash_dev::{Geometry, Region};
+
+// HELLO.
+fn hello(x: u32, reply: &mut Reply)
+    ensures row { (core : Core) → hello_row core (hello_ask x) ≡ Answered core reply.new.status reply.new.body }
+    ensures hurt { reply.new.hurt ≡ Whole }
+    ensures short { length reply.new.body ≤ 96 }
+{
+    let say = HelloSay {
+        x: x.wrapping_add(0x01020304),
+    };
+    reply.succeed();
+    say.write(&mut reply.body);
+}
+
+// A text with zeros behind it.
+fn padded(text: &[u8]) -> [u8; 32]
+    requires { length text.now ≤ 32 }
+    ensures { result ≡ zero_padded 32 text.now }
+{
+    let mut bytes = [0; 32];
+    bytes[..text.len()].copy_from_slice(text);
+    bytes
+}
+
+// GET_CHIP_INFO.
+fn chip(reply: &mut Reply)
+    ensures row { (core : Core) → chip_row core ≡ Answered core reply.new.status reply.new.body }
+    ensures hurt { reply.new.hurt ≡ Whole }
+    ensures short { length reply.new.body ≤ 96 }
+{
+    let say = ChipSay {
+        vendor: padded(b"bench"),
+        name: padded(b"ecbench"),
+        revision: padded(b"1"),
+    };
+    reply.succeed();
+    say.write(&mut reply.body);
+}
+
+// GET_CMD_VERSIONS, of the command with this number.
+fn cmd_versions(command: u16, reply: &mut Reply)
+    ensures row { (core : Core) → mask_told core (known command) ≡ Answered core reply.new.status reply.new.body }
+    ensures hurt { reply.new.hurt ≡ Whole }
+    ensures short { length reply.new.body ≤ 96 }
+{
+    match known(command) {
+        Some(mask) => {
+            reply.succeed();
+            CmdVersionsSay { mask }.write(&mut reply.body);
+        }
+        None => reply.refuse(3),
+    }
+}
+
+// TEST_PROTOCOL.
+fn test(ask: TestAsk, reply: &mut Reply)
+    ensures row { (core : Core) → test_row core (test_ask ask.ec_result ask.ret_len ask.buf) ≡ Answered core reply.new.status reply.new.body }
+    ensures hurt { reply.new.hurt ≡ Whole }
+    ensures short { length reply.new.body ≤ 96 }
+{
+    match ask.ec_result {
+        0 => {
+            let count = ask.ret_len.min(32) as usize;
+            let mut bytes = Packet::new();
+            bytes.extend(&ask.buf[..count]);
+            reply.succeed();
+            TestSay { bytes }.write(&mut reply.body);
+        }
+        wanted if wanted <= 20 => reply.refuse(wanted as u16),
+        _ => reply.refuse(3),
+    }
+}
+
+// FLASH_INFO.
+fn flash_info(size: u32, version: u8, reply: &mut Reply)
+    ensures row { (core : Core) → length core.flash ≡ size → flash_info_row core version ≡ Answered core reply.new.status reply.new.body }
+    ensures hurt { reply.new.hurt ≡ Whole }
+    ensures short { length reply.new.body ≤ 96 }
+{
+    if version == 0 {
+        let say = FlashInfoSay0 {
+            size,
+            write: 4,
+            erase: 4096,
+            protect: 4096,
+        };
+        reply.succeed();
+        say.write(&mut reply.body);
+    } else {
+        let say = FlashInfoSay1 {
+            size,
+            write: 4,
+            erase: 4096,
+            protect: 4096,
+            ideal: 64,
+            flags: 0,
+        };
+        reply.succeed();
+        say.write(&mut reply.body);
+    }
+}
+
+// FLASH_REGION_INFO.
+fn region_info(region: u32, geometry: Geometry, reply: &mut Reply)
+    ensures row { (core : Core) → length core.flash ≡ geometry → region_info_row core (region_info_ask region) ≡ Answered core reply.new.status reply.new.body }
+    ensures hurt { reply.new.hurt ≡ Whole }
+    ensures short { length reply.new.body ≤ 96 }
+{
+    match Region::of(region) {
+        Some(region) => {
+            let (offset, size) = geometry.range(region);
+            reply.succeed();
+            RegionInfoSay { offset, size }.write(&mut reply.body);
+        }
+        None => reply.refuse(3),
+    }
+}
+
+/// Answers a question. `limit` is the most bytes of a packet on the bus.
+pub fn tell(question: Question, version: u8, limit: u16, geometry: Geometry, reply: &mut Reply)
+    ensures row { (core : Core) → length core.flash ≡ geometry →
+        row core limit (question_command question) version (question_body version question) ≡ Answered core reply.new.status reply.new.body }
+    ensures hurt { reply.new.hurt ≡ Whole }
+    ensures short { length reply.new.body ≤ 96 }
+{
+    match question {
+        Question::Proto => {
+            reply.succeed();
+            ProtoSay { version: 2 }.write(&mut reply.body);
+        }
+        Question::Hello(ask) => hello(ask.x, reply),
+        Question::Chip => chip(reply),
+        Question::CmdVersions(command) => cmd_versions(command, reply),
+        Question::Test(ask) => test(ask, reply),
+        Question::ProtoInfo => {
+            let say = ProtoInfoSay {
+                versions: 8,
+                max_request: limit,
+                max_response: limit,
+                flags: 1,
+            };
+            reply.succeed();
+            say.write(&mut reply.body);
+        }
+        Question::FlashInfo => flash_info(geometry.size(), version, reply),
+        Question::RegionInfo(ask) => region_info(ask.region, geometry, reply),
+    }
+}
