@@ -23,6 +23,7 @@ use Rattle.host_runs.proofs.Plain.{plain-answered}
 use Rattle.host_runs.proofs.Response.{eq-true}
 use Rattle.host_transport.specs.Once.{Ending, Said, SentOnce, ended, heard_as, Bad}
 use Rattle.ectool_lines.specs.declared.tool.Tool.{Tool}
+use Rattle.ectool_lines.specs.Tools.{IsInRange}
 use Rattle.ectool_lines.specs.Requests.{Asked, packet_of, first_of, count_of, command_of, commands_of}
 use Rattle.ectool_lines.specs.Texts.{LineEnd, Succeeded, Stopped}
 use Rattle.ectool_lines.specs.Asking.{AllSucceed, StopsAt, AsksEach, Hears}
@@ -214,7 +215,7 @@ proper-first f zero each = tt
 proper-first f (suc count) each = proper-more (first_of count f) (f count) (proper-first f count each) (each count)
 
 -- each command of a line is proper
-pub tool-proper : (tool : Tool) → AreProper (commands_of 256 tool)
-tool-proper tool =
+pub tool-proper : (tool : Tool) → IsInRange tool → AreProper (commands_of 256 tool)
+tool-proper tool within =
     proper-first (command_of 256 tool) (count_of 256 tool)
-    (λ k. record { plain = command-plain tool k; short = packet-short (command_of 256 tool k).command (command_of 256 tool k).version (command_of 256 tool k).body (command-short tool k); wanted = command-wanted tool k })
+    (λ k. record { plain = command-plain tool k within; short = packet-short (command_of 256 tool k).command (command_of 256 tool k).version (command_of 256 tool k).body (command-short tool k within); wanted = λ core. command-wanted tool k core within })

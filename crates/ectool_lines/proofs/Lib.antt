@@ -1,3 +1,4 @@
 pub mod SendLemmas
 pub mod WantLemmas
 pub mod AnswerLemmas
+pub mod ReplyLemmas

@@ -2,24 +2,28 @@
 use Rattle.std.proofs.Common.{◌≡◌, refl, sym, ap, ◌∙◌, subst, ℕ, zero, suc, ◌+◌, ◌-◌, ◌*◌, ◌/◌, ◌%◌, ◌^◌, ◌==◌, ◌<◌, ◌≤◌, Bool, true, false, ◌&&◌, List, [], ◌∷◌, ◌++◌, length, take, drop, append_assoc, append-nil, ◌⊎◌, inl, inr, arith}
 use Rattle.std.proofs.lemmas.Bool.{cases_lt}
 use Rattle.ec_model.proofs.GuardSteps.{if_cases}
-use Rattle.std.proofs.lemmas.List.{length-take}
+use Rattle.std.specs.Prelude.{replicate}
+use Rattle.std.proofs.lemmas.Bool.Decides.{eqb_tells}
+use Rattle.std.proofs.lemmas.List.{length-take, length-append, length-replicate}
 use Rattle.std.specs.List.{list_all, list_any}
 use Rattle.ec_types.specs.Tables.{packet_limit}
 use Rattle.ec_types.specs.declared.bus.BusKind.{BusKind}
 use Rattle.ec_types.specs.declared.bus.BusKind.TheVariants.{Lpc}
-use Rattle.ec_model.specs.Bodies.{flash_write_ask}
+use Rattle.ec_types.specs.LittleEndian.{u32_bytes}
+use Rattle.ec_model.specs.Bodies.{flash_write_ask, test_ask}
+use Rattle.ec_model.specs.InfoRows.{zero_padded}
 use Rattle.ec_model.specs.declared.event.Entry.{Entry}
 use Rattle.ec_model.specs.declared.event.Entry.TheVariants.{Step, Mark}
 use Rattle.ec_wire.specs.Calls.{WireView, Grows, is_wire_step}
 use Rattle.ec_wire.proofs.Growth.{grows-nil, grows-then}
-use Rattle.host_runs.specs.Served.{IsPlain}
+use Rattle.host_runs.specs.Served.{IsPlain, is_cold_body}
 use Rattle.host_runs.proofs.Spelled.{plain-spelled}
 use Rattle.host_transport.specs.Once.{Ending, Said, AskedOnce, AsksOnce}
 use Rattle.host_transport.specs.Ends.{ending_of}
 use Rattle.host_transport.specs.declared.ending.Once.{Once}
 use Rattle.host_transport.specs.declared.ending.Once.TheVariants.{Status, Bad, Silent, NoPower}
 use Rattle.ectool_lines.specs.declared.tool.Tool.{Tool}
-use Rattle.ectool_lines.specs.declared.tool.Tool.TheVariants.{Hello, FlashRead, FlashWrite}
+use Rattle.ectool_lines.specs.declared.tool.Tool.TheVariants.{Hello, ChipInfo, CmdVersions, ProtoInfo, FlashInfo, RegionInfo, FlashRead, FlashWrite, Test}
 use Rattle.ectool_lines.specs.Tools.{IsInRange}
 use Rattle.ectool_lines.specs.Requests.{Asked, packet_of, first_of, parts_of, count_of, command_of, commands_of}
 use Rattle.ectool_lines.specs.Texts.{Succeeded, Stopped, printed, replies_text, reply_text, closing_text, refusal_text}
@@ -161,8 +165,14 @@ write_parts-few size small = if_cases (λ (parts : ℕ). parts ≤ 18) (size == 
 -- how many commands a line sends on LPC
 pub count-few : (tool : Tool) → IsInRange tool → count_of 256 tool ≤ 18
 count-few Hello within = omega arith
+count-few ChipInfo within = omega arith
+count-few (CmdVersions number) within = omega arith
+count-few ProtoInfo within = omega arith
+count-few FlashInfo within = omega arith
+count-few (RegionInfo region) within = omega arith
 count-few (FlashRead at size) within = parts-few size within
 count-few (FlashWrite at bytes) within = write_parts-few (length bytes) within.1
+count-few (Test ec_result ret_len bytes) within = omega arith
 
 -- the body of a write of at most so many bytes
 write-short : (at : ℕ) (bytes : List ℕ) → length bytes ≤ 240 → length (flash_write_ask at bytes) ≤ 248
@@ -172,20 +182,62 @@ write-short at bytes short = omega (arith, short)
 part-short : (most start : ℕ) (bytes : List ℕ) → length (take most (drop start bytes)) ≤ most
 part-short most start bytes = omega (arith, length-take most (drop start bytes))
 
+-- bytes that are padded have the length that they are padded to
+pub padded-length : (size : ℕ) (bytes : List ℕ) → length bytes ≤ size → length (zero_padded size bytes) ≡ size
+padded-length size bytes short = omega (arith, length-append bytes (replicate (size - length bytes) 0), length-replicate {A = ℕ} (size - length bytes) 0, short)
+
+-- the body of a TEST_PROTOCOL
+test-short : (ec_result ret_len : ℕ) (bytes : List ℕ) → length bytes ≤ 32 → length (test_ask ec_result ret_len (zero_padded 32 bytes)) ≤ 248
+test-short ec_result ret_len bytes short = omega (arith, length-append (u32_bytes ec_result ++ u32_bytes ret_len) (zero_padded 32 bytes), padded-length 32 bytes short)
+
 -- the bodies of a line's commands are short on LPC
-pub command-short : (tool : Tool) (k : ℕ) → length (command_of 256 tool k).body ≤ 248
-command-short Hello k = omega arith
-command-short (FlashRead at size) k = omega arith
-command-short (FlashWrite at bytes) k = write-short ((at + k * 240) % 2 ^ 32) (take 240 (drop (k * 240) bytes)) (part-short 240 (k * 240) bytes)
+pub command-short : (tool : Tool) (k : ℕ) → IsInRange tool → length (command_of 256 tool k).body ≤ 248
+command-short Hello k within = omega arith
+command-short ChipInfo k within = omega arith
+command-short (CmdVersions number) k within = omega arith
+command-short ProtoInfo k within = omega arith
+command-short FlashInfo k within = omega arith
+command-short (RegionInfo region) k within = omega arith
+command-short (FlashRead at size) k within = omega arith
+command-short (FlashWrite at bytes) k within = write-short ((at + k * 240) % 2 ^ 32) (take 240 (drop (k * 240) bytes)) (part-short 240 (k * 240) bytes)
+command-short (Test ec_result ret_len bytes) k within = test-short ec_result ret_len bytes within.2
 
 -- what a success has at most on LPC
-pub command-wants : (tool : Tool) (k : ℕ) → (command_of 256 tool k).want ≤ 248
-command-wants Hello k = omega arith
-command-wants (FlashRead at size) k = omega arith
-command-wants (FlashWrite at bytes) k = omega arith
+pub command-wants : (tool : Tool) (k : ℕ) → IsInRange tool → (command_of 256 tool k).want ≤ 248
+command-wants Hello k within = omega arith
+command-wants ChipInfo k within = omega arith
+command-wants (CmdVersions number) k within = omega arith
+command-wants ProtoInfo k within = omega arith
+command-wants FlashInfo k within = omega arith
+command-wants (RegionInfo region) k within = omega arith
+command-wants (FlashRead at size) k within = omega arith
+command-wants (FlashWrite at bytes) k within = omega arith
+command-wants (Test ec_result ret_len bytes) k within = omega (arith, within.0)
+
+-- the numbers of the commands of lines are below that of COLD
+command-below : (tool : Tool) (k : ℕ) → (command_of 256 tool k).command < 0xD2
+command-below Hello k = omega arith
+command-below ChipInfo k = omega arith
+command-below (CmdVersions number) k = omega arith
+command-below ProtoInfo k = omega arith
+command-below FlashInfo k = omega arith
+command-below (RegionInfo region) k = omega arith
+command-below (FlashRead at size) k = omega arith
+command-below (FlashWrite at bytes) k = omega arith
+command-below (Test ec_result ret_len bytes) k = omega arith
+
+-- a smaller number is another one
+below-other : (a b : ℕ) → a < b → (a == b) ≡ false
+below-other a b small = grind (arith, eqb_tells)
+
+-- a command whose number is below that of COLD is none
+no-cold : (asked : Asked) → asked.command < 0xD2 → ((asked.command == 0xD2) && is_cold_body asked.body) ≡ false
+no-cold asked small = ap (λ (same : Bool). same && is_cold_body asked.body) (below-other asked.command 0xD2 small)
+
+-- a command that is no COLD, as it is spelled
+plain-at : (asked : Asked) → asked.command < 0xD2 → length asked.body ≤ 248 → IsPlain (packet_of asked)
+plain-at asked small short = plain-spelled asked.command asked.version asked.body (omega (arith, small)) (omega (arith, short)) (no-cold asked small)
 
 -- no command of a line is a COLD
-pub command-plain : (tool : Tool) (k : ℕ) → IsPlain (packet_of (command_of 256 tool k))
-command-plain Hello k = plain-spelled 0x01 0 (command_of 256 Hello k).body (omega arith) (omega arith) refl
-command-plain (FlashRead at size) k = plain-spelled 0x11 0 (command_of 256 (FlashRead at size) k).body (omega arith) (omega arith) refl
-command-plain (FlashWrite at bytes) k = plain-spelled 0x12 1 (command_of 256 (FlashWrite at bytes) k).body (omega arith) (omega (arith, command-short (FlashWrite at bytes) k)) refl
+pub command-plain : (tool : Tool) (k : ℕ) → IsInRange tool → IsPlain (packet_of (command_of 256 tool k))
+command-plain tool k within = plain-at (command_of 256 tool k) (command-below tool k) (command-short tool k within)

@@ -2,12 +2,13 @@
 use Rattle.std.proofs.Common.{◌≡◌, refl, sym, ap, ◌∙◌, subst, ℕ, ◌+◌, ◌-◌, ◌*◌, ◌%◌, ◌^◌, ◌<◌, ◌≤◌, ◌==◌, Bool, true, false, not, ◌&&◌, ◌||◌, nat_lt, if◌then◌else◌, List, [], length, take, drop, min, Option, Some, None, Result, Ok, Err, arith, length-take}
 use Rattle.std.specs.Prelude.{is_some}
 use Rattle.std.proofs.lemmas.List.{length-drop}
-use Rattle.std.proofs.lemmas.Bool.Decides.{leb_tells}
-use Rattle.ec_types.specs.LittleEndian.{u32_at}
-use Rattle.ec_model.specs.Bodies.{hello_ask, flash_read_ask, flash_write_ask}
+use Rattle.std.proofs.lemmas.Bool.Decides.{leb_tells, eqb_tells}
+use Rattle.ec_types.specs.LittleEndian.{u16_at, u32_at}
+use Rattle.ec_model.specs.Bodies.{hello_ask, cmd_versions_ask1, region_info_ask, test_ask, flash_read_ask, flash_write_ask}
 use Rattle.ec_model.specs.Packet.{RequestView, request_packet, framing}
-use Rattle.ec_model.specs.Ranges.{Range, part, ends_within}
-use Rattle.ec_model.specs.Commands.{is_write_spelled}
+use Rattle.ec_model.specs.Ranges.{Range, part, ends_within, region_range}
+use Rattle.ec_model.specs.Commands.{is_write_spelled, known}
+use Rattle.ec_model.specs.InfoRows.{zero_padded, mask_told, range_told, test_row}
 use Rattle.ec_model.specs.Table.{Core, is_blocked}
 use Rattle.ec_model.specs.Answer.{Outcome, Answered, Restarts, done}
 use Rattle.ec_model.specs.FlashRows.{unless_refused, asked_range, read_refusal, flash_read_row, write_refusal, flash_write_row, written, is_whole_units}
@@ -15,9 +16,10 @@ use Rattle.ec_model.specs.Handle.{Admitted, row_of, admitted_from, handled}
 use Rattle.ec_model.proofs.GuardSteps.{if_cases}
 use Rattle.host_runs.proofs.Spelled.{framing-spelled}
 use Rattle.ectool_lines.specs.declared.tool.Tool.{Tool}
-use Rattle.ectool_lines.specs.declared.tool.Tool.TheVariants.{Hello, FlashRead, FlashWrite}
-use Rattle.ectool_lines.specs.Requests.{Asked, packet_of, command_of, hello_command, read_command, write_command}
-use Rattle.ectool_lines.proofs.SendLemmas.{command-short}
+use Rattle.ectool_lines.specs.declared.tool.Tool.TheVariants.{Hello, ChipInfo, CmdVersions, ProtoInfo, FlashInfo, RegionInfo, FlashRead, FlashWrite, Test}
+use Rattle.ectool_lines.specs.Tools.{IsInRange}
+use Rattle.ectool_lines.specs.Requests.{Asked, region_number, packet_of, command_of, hello_command, read_command, write_command}
+use Rattle.ectool_lines.proofs.SendLemmas.{command-short, padded-length}
 
 -- an answer with a status of 16 bits, that has so many bytes where it is a success
 abbrev pub HasWanted : ℕ → Outcome → Type 0
@@ -87,13 +89,55 @@ spelled-wanted : (want : ℕ) (core : Core) (command version : ℕ) (body : List
 spelled-wanted want core command version body small short wanted =
     subst (λ (framed : Result RequestView ℕ). HasWanted want (row_of core 256 (admitted_from core framed))) (sym (framing-spelled command version body small short)) wanted
 
+-- GET_CMD_VERSIONS, by the mask
+mask-wanted : (core : Core) (mask : Option ℕ) → HasWanted 4 (mask_told core mask)
+mask-wanted core None = refusal-wanted 4 core 3 (omega arith) (omega arith)
+mask-wanted core (Some mask) = (omega arith, λ none. omega arith)
+
+-- FLASH_REGION_INFO, by the range
+range-wanted : (core : Core) (range : Option Range) → HasWanted 8 (range_told core range)
+range-wanted core None = refusal-wanted 8 core 3 (omega arith) (omega arith)
+range-wanted core (Some range) = (omega arith, λ none. omega arith)
+
+-- the fields of a TEST_PROTOCOL
+test-result : (ec_result ret_len : ℕ) (buf : List ℕ) → ret_len < 2 ^ 32 → u32_at 4 (test_ask ec_result ret_len buf) ≡ ret_len
+test-result ec_result ret_len buf small = omega (arith, small)
+
+-- a buffer, cut to a length that it has
+cut-length : (count ret_len : ℕ) (buf : List ℕ) → count ≡ ret_len → ret_len ≤ 32 → length buf ≡ 32 → length (take (min count 32) buf) ≡ ret_len
+cut-length count ret_len buf same short whole = omega (arith, same, short, whole, length-take (min count 32) buf)
+
+-- TEST_PROTOCOL
+test-wanted : (core : Core) (ec_result ret_len : ℕ) (buf : List ℕ) → ret_len ≤ 32 → length buf ≡ 32 → HasWanted ret_len (test_row core (test_ask ec_result ret_len buf))
+test-wanted core ec_result ret_len buf short whole =
+    let body = test_ask ec_result ret_len buf in
+    let answers : Outcome → Type 0 = λ outcome. HasWanted ret_len outcome in
+    if_cases answers (nat_lt 20 (u32_at 0 body)) _ _ (λ large. refusal-wanted ret_len core 3 (omega arith) (omega arith))
+    (λ small. if_cases answers (u32_at 0 body == 0) _ _
+    (λ success. (omega arith, λ none. cut-length (u32_at 4 body) ret_len buf (test-result ec_result ret_len buf (omega (arith, short))) short whole))
+    (λ other. let tests = leb_tells 21 (u32_at 0 body) in let zero = eqb_tells (u32_at 0 body) 0 in refusal-wanted ret_len core (u32_at 0 body) (grind (arith, zero)) (grind (arith, tests))))
+
 -- each command of a line
-pub command-wanted : (tool : Tool) (k : ℕ) (core : Core) → HasWanted (command_of 256 tool k).want (handled core 256 (packet_of (command_of 256 tool k)))
-command-wanted Hello k core = spelled-wanted 4 core 0x01 0 (hello_ask 0xA0B0C0D0) (omega arith) (omega arith) (hello-wanted core)
-command-wanted (FlashRead at size) k core =
+pub command-wanted : (tool : Tool) (k : ℕ) (core : Core) → IsInRange tool → HasWanted (command_of 256 tool k).want (handled core 256 (packet_of (command_of 256 tool k)))
+command-wanted Hello k core within = spelled-wanted 4 core 0x01 0 (hello_ask 0xA0B0C0D0) (omega arith) (omega arith) (hello-wanted core)
+command-wanted ChipInfo k core within = spelled-wanted 96 core 0x05 0 [] (omega arith) (omega arith) (checked-wanted 96 core true _ (omega arith, λ none. refl))
+command-wanted (CmdVersions number) k core within =
+    let body = cmd_versions_ask1 number in
+    spelled-wanted 4 core 0x08 1 body (omega arith) (omega arith) (checked-wanted 4 core true _ (mask-wanted core (known (u16_at 0 body))))
+command-wanted ProtoInfo k core within = spelled-wanted 12 core 0x0B 0 [] (omega arith) (omega arith) (checked-wanted 12 core true _ (omega arith, λ none. refl))
+command-wanted FlashInfo k core within = spelled-wanted 24 core 0x10 1 [] (omega arith) (omega arith) (checked-wanted 24 core true _ (omega arith, λ none. omega arith))
+command-wanted (RegionInfo region) k core within =
+    let body = region_info_ask (region_number region) in
+    spelled-wanted 8 core 0x16 1 body (omega arith) (omega arith) (checked-wanted 8 core true _ (range-wanted core (region_range (u32_at 0 body) (length core.flash))))
+command-wanted (FlashRead at size) k core within =
     let part = min 248 (size - k * 248) in
     let place = (at + k * 248) % 2 ^ 32 in
     spelled-wanted part core 0x11 0 (flash_read_ask place part) (omega arith) (omega arith) (read-wanted core place part (omega arith))
-command-wanted (FlashWrite at bytes) k core =
+command-wanted (FlashWrite at bytes) k core within =
     let body = (command_of 256 (FlashWrite at bytes) k).body in
-    spelled-wanted 0 core 0x12 1 body (omega arith) (omega (arith, command-short (FlashWrite at bytes) k)) (write-wanted core body)
+    spelled-wanted 0 core 0x12 1 body (omega arith) (omega (arith, command-short (FlashWrite at bytes) k within)) (write-wanted core body)
+command-wanted (Test ec_result ret_len bytes) k core within =
+    let body = test_ask ec_result ret_len (zero_padded 32 bytes) in
+    let whole = padded-length 32 bytes within.2 in
+    spelled-wanted ret_len core 0x0A 0 body (omega arith) (omega (arith, command-short (Test ec_result ret_len bytes) k within))
+    (checked-wanted ret_len core (length body == 40) _ (test-wanted core ec_result ret_len (zero_padded 32 bytes) within.0 whole))

@@ -1,9 +1,12 @@
 -- The commands that a line sends.
 use Rattle.std.specs.Prelude.{ℕ, zero, suc, ◌+◌, ◌-◌, ◌*◌, ◌/◌, ◌%◌, ◌^◌, ◌==◌, min, if◌then◌else◌, List, [], ◌∷◌, ◌++◌, length, take, drop}
 use Rattle.ec_model.specs.Packet.{request_packet}
-use Rattle.ec_model.specs.Bodies.{hello_ask, flash_read_ask, flash_write_ask}
+use Rattle.flash_dev.specs.declared.geometry.Region.{Region}
+use Rattle.flash_dev.specs.declared.geometry.Region.TheVariants.{Ro, Active, WpRo, Update}
+use Rattle.ec_model.specs.Bodies.{hello_ask, cmd_versions_ask1, region_info_ask, test_ask, flash_read_ask, flash_write_ask}
+use Rattle.ec_model.specs.InfoRows.{zero_padded}
 use Rattle.ectool_lines.specs.declared.tool.Tool.{Tool}
-use Rattle.ectool_lines.specs.declared.tool.Tool.TheVariants.{Hello, FlashRead, FlashWrite}
+use Rattle.ectool_lines.specs.declared.tool.Tool.TheVariants.{Hello, ChipInfo, CmdVersions, ProtoInfo, FlashInfo, RegionInfo, FlashRead, FlashWrite, Test}
 
 -- a command as it is sent: its number, its version, its body, and how many bytes a reply has that is a success
 pub record Asked : Type 0 where
@@ -37,15 +40,38 @@ read_command at size = record { command = 0x11; version = 0; body = flash_read_a
 abbrev pub write_command : (at : ℕ) (bytes : List ℕ) → Asked
 write_command at bytes = record { command = 0x12; version = 1; body = flash_write_ask (at % 2 ^ 32) bytes; want = 0 }
 
+-- a command without a body
+abbrev pub question : (command version want : ℕ) → Asked
+question command version want = record { command = command; version = version; body = []; want = want }
+
+-- a region by its number
+abbrev pub region_number : Region → ℕ
+region_number Ro = 0
+region_number Active = 1
+region_number WpRo = 2
+region_number Update = 3
+
+-- TEST_PROTOCOL with these bytes, padded with zeros, for a reply of so many of them
+abbrev pub test_command : (ec_result ret_len : ℕ) (bytes : List ℕ) → Asked
+test_command ec_result ret_len bytes =
+    record { command = 0x0A; version = 0; body = test_ask ec_result ret_len (zero_padded 32 bytes); want = ret_len }
+
 -- how many commands a line sends on a bus with this packet limit
 abbrev pub count_of : (limit : ℕ) → Tool → ℕ
-count_of limit Hello = 1
 count_of limit (FlashRead at size) = parts_of (limit - 8) size
 count_of limit (FlashWrite at bytes) = parts_of (limit - 16) (length bytes)
+count_of limit other = 1
 
 -- command k of a line, counted from 0: part k of what is read or written
 abbrev pub command_of : (limit : ℕ) → Tool → (k : ℕ) → Asked
 command_of limit Hello k = hello_command
+command_of limit ChipInfo k = question 0x05 0 96
+command_of limit (CmdVersions number) k = record { command = 0x08; version = 1; body = cmd_versions_ask1 number; want = 4 }
+command_of limit ProtoInfo k = question 0x0B 0 12
+command_of limit FlashInfo k = question 0x10 1 24
+command_of limit (RegionInfo region) k =
+    record { command = 0x16; version = 1; body = region_info_ask (region_number region); want = 8 }
+command_of limit (Test ec_result ret_len bytes) k = test_command ec_result ret_len bytes
 command_of limit (FlashRead at size) k =
     read_command (at + k * (limit - 8)) (min (limit - 8) (size - k * (limit - 8)))
 command_of limit (FlashWrite at bytes) k =

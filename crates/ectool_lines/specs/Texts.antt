@@ -1,11 +1,14 @@
 -- The texts that lines print.
-use Rattle.std.specs.Prelude.{ℕ, List, [], ◌∷◌, ◌++◌, length, codes}
+use Rattle.std.specs.Prelude.{ℕ, ◌==◌, List, [], ◌∷◌, ◌++◌, length, take, drop, codes}
+use Rattle.std.specs.List.{position_or_len}
+use Rattle.std.specs.Int.{w32, to_be_bytes}
+use Rattle.ec_types.specs.LittleEndian.{u16_at, u32_at}
 use Rattle.std.specs.Fmt.{decimal}
 use Rattle.hex.specs.Hex.{encode_lower}
 use Rattle.ec_types.specs.Tables.{status_name}
 use Rattle.host_transport.specs.Once.{Ending, Said, Bad, Silent, NoPower}
 use Rattle.ectool_lines.specs.declared.tool.Tool.{Tool}
-use Rattle.ectool_lines.specs.declared.tool.Tool.TheVariants.{Hello, FlashRead, FlashWrite}
+use Rattle.ectool_lines.specs.declared.tool.Tool.TheVariants.{Hello, ChipInfo, CmdVersions, ProtoInfo, FlashInfo, RegionInfo, FlashRead, FlashWrite, Test}
 
 -- a printed line: its text and a line feed
 abbrev pub printed : List ℕ → List ℕ
@@ -22,11 +25,44 @@ refusal_text Bad = codes "EC did not answer"
 refusal_text Silent = codes "EC did not answer"
 refusal_text NoPower = codes "EC has no power"
 
+-- a number as `0x` and eight hexadecimal digits
+abbrev pub hex_text : ℕ → List ℕ
+hex_text number = codes "0x" ++ encode_lower (to_be_bytes w32 number)
+
+-- a text with zeros behind it: its bytes before the first zero, or all of them
+abbrev pub field_text : List ℕ → List ℕ
+field_text bytes = take (position_or_len (λ byte. byte == 0) bytes) bytes
+
+-- GET_CHIP_INFO's reply
+abbrev pub chip_text : (vendor name revision : List ℕ) → List ℕ
+chip_text vendor name revision =
+    codes "vendor " ++ field_text vendor ++ codes " name " ++ field_text name ++ codes " revision " ++ field_text revision
+
+-- GET_PROTOCOL_INFO's reply
+abbrev pub proto_info_text : (versions max_request max_response flags : ℕ) → List ℕ
+proto_info_text versions max_request max_response flags =
+    codes "versions " ++ hex_text versions ++ codes " request " ++ decimal max_request
+    ++ codes " response " ++ decimal max_response ++ codes " flags " ++ hex_text flags
+
+-- FLASH_INFO's reply of version 1
+abbrev pub flash_info_text : (size write erase protect ideal flags : ℕ) → List ℕ
+flash_info_text size write erase protect ideal flags =
+    codes "size " ++ decimal size ++ codes " write " ++ decimal write ++ codes " erase " ++ decimal erase
+    ++ codes " protect " ++ decimal protect ++ codes " ideal " ++ decimal ideal ++ codes " flags " ++ hex_text flags
+
 -- what the reply to one of its commands gives to a line's text
 abbrev pub reply_text : Tool → List ℕ → List ℕ
 reply_text Hello body = []
+reply_text ChipInfo body = chip_text (take 32 body) (take 32 (drop 32 body)) (take 32 (drop 64 body))
+reply_text (CmdVersions number) body = codes "versions " ++ hex_text (u32_at 0 body)
+reply_text ProtoInfo body = proto_info_text (u32_at 0 body) (u16_at 4 body) (u16_at 6 body) (u32_at 8 body)
+reply_text FlashInfo body =
+    flash_info_text (u32_at 0 body) (u32_at 4 body) (u32_at 8 body) (u32_at 12 body) (u32_at 16 body) (u32_at 20 body)
+reply_text (RegionInfo region) body =
+    codes "offset " ++ decimal (u32_at 0 body) ++ codes " size " ++ decimal (u32_at 4 body)
 reply_text (FlashRead at size) body = encode_lower body
 reply_text (FlashWrite at bytes) body = []
+reply_text (Test ec_result ret_len bytes) body = encode_lower body
 
 -- what all the replies give, in their order
 abbrev pub replies_text : Tool → List (List ℕ) → List ℕ
@@ -36,8 +72,8 @@ replies_text tool (body ∷ bodies) = reply_text tool body ++ replies_text tool 
 -- how the text of a line ends that was a success
 abbrev pub closing_text : Tool → List ℕ
 closing_text Hello = codes "EC says hello!"
-closing_text (FlashRead at size) = []
 closing_text (FlashWrite at bytes) = codes "wrote " ++ decimal (length bytes) ++ codes " bytes"
+closing_text other = []
 
 -- how the commands of a line ended: all in success, with these bodies of their replies; or one of them not
 pub data LineEnd : Type 0 where

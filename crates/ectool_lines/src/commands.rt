@@ -1,12 +1,15 @@
 // The commands that a line sends.
 ghost use Rattle.std.specs.Prelude.{◌≡◌, ◌≤◌, ◌<◌, ◌+◌, ◌-◌, ◌*◌, length, take, drop, min};
 ghost use Rattle.ectool_lines.specs.Tools.{IsInRange};
-ghost use Rattle.ectool_lines.specs.Requests.{parts_of, count_of, command_of, hello_command, read_command, write_command};
+ghost use Rattle.ectool_lines.specs.Requests.{parts_of, count_of, command_of, hello_command, question, region_number, test_command, read_command, write_command};
+ghost use Rattle.ec_model.specs.Bodies.{cmd_versions_ask1, region_info_ask};
+ghost use Rattle.ec_model.specs.InfoRows.{zero_padded};
 ghost use Rattle.ectool_lines.specs.Sending.{asked_of};
 
 use crate::Tool;
 use ec_packet::Packet;
-use ec_params::{FlashReadAsk, FlashWriteAsk, HelloAsk};
+use ec_params::{CmdVersionsAsk1, FlashReadAsk, FlashWriteAsk, HelloAsk, RegionInfoAsk, TestAsk};
+use flash_dev::Region;
 use std::cmp::min;
 
 /// The number that the host sends with HELLO.
@@ -32,9 +35,9 @@ impl Tool {
     {
         let limit = usize::from(limit);
         match self {
-            Tool::Hello => 1,
             Tool::FlashRead { at: _, size } => parts(limit - 8, *size as usize),
             Tool::FlashWrite { at: _, bytes } => parts(limit - 16, bytes.as_slice().len()),
+            _ => 1,
         }
     }
 
@@ -49,6 +52,16 @@ impl Tool {
         let limit = usize::from(limit);
         match self {
             Tool::Hello => hello(),
+            Tool::ChipInfo => question(0x05, 0, 96),
+            Tool::CmdVersions { number } => cmd_versions(*number),
+            Tool::ProtoInfo => question(0x0B, 0, 12),
+            Tool::FlashInfo => question(0x10, 1, 24),
+            Tool::RegionInfo { region } => region_info(*region),
+            Tool::Test {
+                ec_result,
+                ret_len,
+                bytes,
+            } => test(*ec_result, *ret_len, bytes.as_slice()),
             Tool::FlashRead { at, size } => read(*at, *size as usize, limit - 8, k),
             Tool::FlashWrite { at, bytes } => write(*at, bytes.as_slice(), limit - 16, k),
         }
@@ -74,6 +87,91 @@ fn hello() -> Command
         version: 0,
         body,
         want: 4,
+    }
+}
+
+// A command without a body.
+fn question(number: u16, version: u8, want: usize) -> Command
+    ensures { asked_of result ≡ question number version want }
+{
+    Command {
+        number,
+        version,
+        body: Packet::new(),
+        want,
+    }
+}
+
+// GET_CMD_VERSIONS.
+fn cmd_versions(command: u16) -> Command
+    ensures { asked_of result ≡ record { command = 0x08; version = 1; body = cmd_versions_ask1 command; want = 4 } }
+{
+    let mut body = Packet::new();
+    CmdVersionsAsk1 { command }.write(&mut body);
+    Command {
+        number: 0x08,
+        version: 1,
+        body,
+        want: 4,
+    }
+}
+
+// The number of a region.
+fn region_number(region: Region) -> u32
+    ensures { result ≡ region_number region }
+{
+    match region {
+        Region::Ro => 0,
+        Region::Active => 1,
+        Region::WpRo => 2,
+        Region::Update => 3,
+    }
+}
+
+// FLASH_REGION_INFO.
+fn region_info(region: Region) -> Command
+    ensures { asked_of result ≡ record { command = 0x16; version = 1; body = region_info_ask (region_number region); want = 8 } }
+{
+    let mut body = Packet::new();
+    let ask = RegionInfoAsk {
+        region: region_number(region),
+    };
+    ask.write(&mut body);
+    Command {
+        number: 0x16,
+        version: 1,
+        body,
+        want: 8,
+    }
+}
+
+// Bytes with zeros behind them.
+fn padded(bytes: &[u8]) -> [u8; 32]
+    requires { length bytes.now ≤ 32 }
+    ensures { result ≡ zero_padded 32 bytes.now }
+{
+    let mut buf = [0; 32];
+    buf[..bytes.len()].copy_from_slice(bytes);
+    buf
+}
+
+// TEST_PROTOCOL.
+fn test(ec_result: u32, ret_len: u32, bytes: &[u8]) -> Command
+    requires { length bytes.now ≤ 32 }
+    ensures { asked_of result ≡ test_command ec_result ret_len bytes.now }
+{
+    let mut body = Packet::new();
+    let ask = TestAsk {
+        ec_result,
+        ret_len,
+        buf: padded(bytes),
+    };
+    ask.write(&mut body);
+    Command {
+        number: 0x0A,
+        version: 0,
+        body,
+        want: ret_len as usize,
     }
 }
 

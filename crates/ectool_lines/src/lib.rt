@@ -3,6 +3,7 @@
 
 mod commands;
 mod grammar;
+mod replies;
 mod sending;
 mod text;
 mod tool;

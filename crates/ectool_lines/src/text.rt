@@ -1,13 +1,13 @@
 // The texts that lines print.
-ghost use Rattle.std.specs.Prelude.{◌≡◌, ◌≤◌, ◌+◌, ◌*◌, ◌++◌, [], ℕ, List, length, codes};
+ghost use Rattle.std.specs.Prelude.{◌≡◌, ◌≤◌, ◌+◌, ◌*◌, ◌++◌, ◌==◌, [], ℕ, List, length, codes};
 ghost use Rattle.std.specs.Fmt.{decimal};
+ghost use Rattle.std.specs.List.{position_or_len};
 ghost use Rattle.hex.specs.Hex.{encode_lower};
 ghost use Rattle.host_transport.specs.Ends.{ending_of};
-ghost use Rattle.ectool_lines.specs.Texts.{printed, refusal_text, status_text, reply_text, closing_text};
+ghost use Rattle.ectool_lines.specs.Texts.{printed, refusal_text, status_text, closing_text, hex_text, field_text};
 
 use crate::Tool;
 use arrayvec::ArrayVec;
-use ec_packet::Packet;
 use ec_types::Status;
 use host_transport::Once;
 use itoa::Buffer;
@@ -16,7 +16,7 @@ use std::marker::Model;
 /// The text of one line, in a buffer that holds the longest one.
 #[derive(Drop)]
 pub struct LineText {
-    bytes: ArrayVec<u8, 9216>,
+    bytes: ArrayVec<u8, 12288>,
 }
 
 impl Model for LineText {
@@ -26,7 +26,7 @@ impl Model for LineText {
 
     ghost view = { λ text. text.bytes.items };
 
-    ghost invariant = { λ text. length text.bytes.items ≤ 9216 };
+    ghost invariant = { λ text. length text.bytes.items ≤ 12288 };
 }
 
 impl LineText {
@@ -54,8 +54,8 @@ impl LineText {
     }
 
     /// Appends bytes that fit.
-    fn append(&mut self, bytes: &[u8])
-        requires { length self.old + length bytes.now ≤ 9216 }
+    pub(crate) fn append(&mut self, bytes: &[u8])
+        requires { length self.old + length bytes.now ≤ 12288 }
         ensures { self.new ≡ self.old ++ bytes.now }
     {
         match self.bytes.try_extend_from_slice(bytes) {
@@ -65,9 +65,9 @@ impl LineText {
     }
 
     /// Appends bytes as two lower case hexadecimal digits each.
-    fn append_hex(&mut self, bytes: &[u8])
+    pub(crate) fn append_hex(&mut self, bytes: &[u8])
         requires few { length bytes.now ≤ 544 }
-        requires fits { length self.old + 2 * length bytes.now ≤ 9216 }
+        requires fits { length self.old + 2 * length bytes.now ≤ 12288 }
         ensures text { self.new ≡ self.old ++ encode_lower bytes.now }
         ensures long { length self.new ≡ length self.old + 2 * length bytes.now }
     {
@@ -78,6 +78,41 @@ impl LineText {
             Err(_) => unreachable!(),
         }
         self.append(digits);
+    }
+
+    /// Appends a label and a decimal number behind it.
+    pub(crate) fn append_number(&mut self, label: &[u8], number: u32)
+        requires short { length label.now ≤ 16 }
+        requires fits { length self.old ≤ 12000 }
+        ensures text { self.new ≡ self.old ++ (label.now ++ decimal number) }
+        ensures long { length self.new ≤ length self.old + 26 }
+    {
+        let mut digits = Buffer::new();
+        self.append(label);
+        self.append(digits.format(number).as_bytes());
+    }
+
+    /// Appends a label, `0x` and the eight hexadecimal digits of a number behind it.
+    pub(crate) fn append_mask(&mut self, label: &[u8], number: u32)
+        requires short { length label.now ≤ 16 }
+        requires fits { length self.old ≤ 12000 }
+        ensures text { self.new ≡ self.old ++ (label.now ++ hex_text number) }
+        ensures long { length self.new ≤ length self.old + 26 }
+    {
+        self.append(label);
+        self.append(b"0x");
+        self.append_hex(&number.to_be_bytes());
+    }
+
+    /// Appends a label and a text behind it that has zeros behind it.
+    pub(crate) fn append_field(&mut self, label: &[u8], field: &[u8; 32])
+        requires short { length label.now ≤ 16 }
+        requires fits { length self.old ≤ 12000 }
+        ensures text { self.new ≡ self.old ++ (label.now ++ field_text field.now) }
+        ensures long { length self.new ≤ length self.old + 48 }
+    {
+        self.append(label);
+        self.append(before_zero(field));
     }
 
     // A status by its number and its name.
@@ -107,22 +142,9 @@ impl LineText {
         self.append(b"\n");
     }
 
-    /// Appends what the reply to one of its commands gives to a line's text.
-    pub(crate) fn add_reply(&mut self, tool: &Tool, reply: &Packet)
-        requires few { length reply.now ≤ 544 }
-        requires fits { length self.old + 2 * length reply.now ≤ 9216 }
-        ensures text { self.new ≡ self.old ++ reply_text tool.now reply.now }
-        ensures long { length self.new ≤ length self.old + 2 * length reply.now }
-    {
-        match tool {
-            Tool::FlashRead { .. } => self.append_hex(reply.as_slice()),
-            Tool::Hello | Tool::FlashWrite { .. } => {}
-        }
-    }
-
     // How many bytes were written.
     fn append_written(&mut self, count: usize)
-        requires { length self.old ≤ 9000 }
+        requires { length self.old ≤ 12000 }
         ensures text { self.new ≡ self.old ++ (codes "wrote " ++ decimal count ++ codes " bytes") }
         ensures short { length self.new ≤ length self.old + 64 }
     {
@@ -134,23 +156,44 @@ impl LineText {
 
     // How the text of a line ends that was a success, but for its line feed.
     fn append_closing(&mut self, tool: &Tool)
-        requires { length self.old ≤ 9000 }
+        requires { length self.old ≤ 12000 }
         ensures text { self.new ≡ self.old ++ closing_text tool.now }
         ensures short { length self.new ≤ length self.old + 64 }
     {
         match tool {
             Tool::Hello => self.append(b"EC says hello!"),
-            Tool::FlashRead { .. } => {}
             Tool::FlashWrite { at: _, bytes } => self.append_written(bytes.as_slice().len()),
+            _ => {}
         }
     }
 
     /// Ends the text of a line that was a success.
     pub(crate) fn close(&mut self, tool: &Tool)
-        requires { length self.old ≤ 9000 }
+        requires { length self.old ≤ 12000 }
         ensures { self.new ≡ printed (self.old ++ closing_text tool.now) }
     {
         self.append_closing(tool);
         self.append(b"\n");
     }
+}
+
+// The bytes before the first zero, or all of them.
+fn before_zero(bytes: &[u8]) -> &[u8]
+    ensures text { result.now ≡ field_text bytes.now }
+    ensures short { length result.now ≤ length bytes.now }
+{
+    &bytes[..text_len(bytes)]
+}
+
+// How many bytes stand before the first zero.
+fn text_len(bytes: &[u8]) -> usize
+    ensures before { result ≡ position_or_len (λ byte. byte == 0) bytes.now }
+    ensures within { result ≤ length bytes.now }
+{
+    for (i, byte) in bytes.iter().enumerate() {
+        if *byte == 0 {
+            return i;
+        }
+    }
+    bytes.len()
 }

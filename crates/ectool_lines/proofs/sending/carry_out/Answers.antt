@@ -25,7 +25,7 @@ add_reply-requires-clause-few g c =
     let limit : c.limit_of-limit.result ≡ 256 = c.limit_of-limit.ensures.limit ∙ ap packet_limit (c.kind.ensures.kind ∙ c.requires.bus) in
     let asked : asked_of c.command-command.result ≡ command_of 256 tool c.loop-k.k = c.command-command.ensures.asked ∙ ap (λ (n : ℕ). command_of n tool c.loop-k.k) limit in
     let success = c.is_success.ensures.0 c.if-not-is_success.false in
-    omega (arith, c.send-ended.ensures.want success, ap (λ (command : Asked). command.want) asked, command-wants tool c.loop-k.k)
+    omega (arith, c.send-ended.ensures.want success, ap (λ (command : Asked). command.want) asked, command-wants tool c.loop-k.k c.requires.within)
 
 pub add_reply-requires-clause-fits : goal.add_reply-requires-clause-fits
 add_reply-requires-clause-fits g c =
@@ -34,7 +34,7 @@ add_reply-requires-clause-fits g c =
     let asked : asked_of c.command-command.result ≡ command_of 256 tool c.loop-k.k = c.command-command.ensures.asked ∙ ap (λ (n : ℕ). command_of n tool c.loop-k.k) limit in
     let count : c.count-k-end.result ≡ count_of 256 tool = c.count-k-end.ensures.count ∙ ap (λ (n : ℕ). count_of n tool) limit in
     let success = c.is_success.ensures.0 c.if-not-is_success.false in
-    omega (arith, c.send-ended.ensures.want success, ap (λ (command : Asked). command.want) asked, command-wants tool c.loop-k.k, c.loop-k.invariant.1, c.loop-k-test.true, count, count-few tool c.requires.within)
+    omega (arith, c.send-ended.ensures.want success, ap (λ (command : Asked). command.want) asked, command-wants tool c.loop-k.k c.requires.within, c.loop-k.invariant.1, c.loop-k-test.true, count, count-few tool c.requires.within)
 
 pub loop-k-preserved : goal.loop-k-preserved
 loop-k-preserved g c =
@@ -46,7 +46,7 @@ loop-k-preserved g c =
     subst (λ (ended : Once). AsksOnce (packet_of (asked_of c.command-command.result)) c.command-command.result.want (ending_of ended c.send-ended.new.reply) (g.W.Wire.view c.loop-k.w) (g.W.Wire.view c.send-ended.new.w)) success c.send-ended.ensures.asks in (
       rw c.add_reply.ensures.text
           (went-on tool c.loop-k.k (g.W.Wire.view c.args.w.now) (g.W.Wire.view c.loop-k.w) (g.W.Wire.view c.send-ended.new.w) c.loop-k.text c.send-ended.new.reply (asked_of c.command-command.result) asked c.loop-k.invariant.0 asks),
-      omega (arith, c.add_reply.ensures.long, c.send-ended.ensures.want success, ap (λ (command : Asked). command.want) asked, command-wants tool c.loop-k.k, c.loop-k.invariant.1),
+      omega (arith, c.add_reply.ensures.long, c.send-ended.ensures.want success, ap (λ (command : Asked). command.want) asked, command-wants tool c.loop-k.k c.requires.within, c.loop-k.invariant.1),
       omega (arith, c.send-ended.ensures.room, c.loop-k.invariant.2),
     )
 
