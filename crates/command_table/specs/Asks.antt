@@ -45,10 +45,10 @@ body_of version (AsksRead ask) = flash_read_ask ask.offset ask.size
 body_of version (AsksWrite ask) = flash_write_ask ask.offset ask.bytes.now
 
 -- what a body says to the command of a line: nothing exactly where it is no spelling
-abbrev pub IsReadAs : Option CommandLine → ℕ → List ℕ → Option Ask → Type 0
-IsReadAs None version body result = Unit {0}
-IsReadAs (Some found) version body None = IsFalse (is_spelled found.command version body)
-IsReadAs (Some found) version body (Some ask) = IsTrue (is_spelled found.command version body) × (command_of ask ≡ found.command) × (body ≡ body_of version ask)
+abbrev pub IsAskOf : Option CommandLine → ℕ → List ℕ → Option Ask → Type 0
+IsAskOf None version body result = Unit {0}
+IsAskOf (Some found) version body None = IsFalse (is_spelled found.command version body)
+IsAskOf (Some found) version body (Some ask) = IsTrue (is_spelled found.command version body) × (command_of ask ≡ found.command) × (body ≡ body_of version ask)
 
 -- a request that passed the checks
 pub record IsPassed (request : RequestView) (found : Result Admitted ℕ) (ask : Ask) : Type 0 where

@@ -2,7 +2,7 @@
 ghost use Rattle.std.specs.Prelude.{◌≡◌, ◌==◌, ◌↔◌, if◌then◌else◌, length, IsSome, IfSome};
 ghost use Rattle.ec_model.specs.Commands.{line_of};
 ghost use Rattle.command_table.specs.declared.asks.Ask.TheVariants.{Question as Asks};
-ghost use Rattle.command_table.specs.Asks.{named, IsReadAs};
+ghost use Rattle.command_table.specs.Asks.{named, IsAskOf};
 
 use ec_params::{
     CmdVersionsAsk0, CmdVersionsAsk1, FlashReadAsk, FlashWriteAskRef, HelloAsk, RegionInfoAsk,
@@ -57,7 +57,7 @@ fn named(version: u8, body: &[u8]) -> Option<u16>
 
 /// What a body says to the command of a number; None where it is no spelling, and where no command has the number.
 pub fn ask_of<'a>(command: u16, version: u8, body: &'a [u8]) -> Option<Ask<'a>>
-    ensures { IsReadAs (line_of command) version body.now result }
+    ensures { IsAskOf (line_of command) version body.now result }
 {
     match command {
         0x0000 => alone(body, Question::Proto),
