@@ -11,7 +11,7 @@ use Rattle.ec_model.specs.declared.event.Entry.TheVariants.{Mark}
 use Rattle.host_transport.specs.Once.{Ending}
 use Rattle.script_words.specs.Lines.{does_nothing}
 use Rattle.ectool_lines.specs.declared.tool.Tool.{Tool}
-use Rattle.ectool_lines.specs.Tools.{tool_of}
+use Rattle.ectool_lines.specs.Tools.{tool_of, IsInRange}
 use Rattle.ectool_lines.specs.Requests.{Asked, commands_of}
 use Rattle.ectool_lines.specs.Texts.{LineEnd, line_text, printed}
 use Rattle.ectool_lines.specs.Asking.{AsksEach}
@@ -24,6 +24,7 @@ pub record CarriesOut {State : Type 0} (asks : State → Asked → List Entry �
   pub own : List Entry
   pub does_something : IsFalse (does_nothing line)
   pub says : tool_of line ≡ Ok tool
+  pub within : IsInRange tool
   pub entries_are : entries ≡ Mark number ∷ own
   pub asks_each : AsksEach asks old (commands_of (packet_limit Lpc) tool) own end new
   pub text_is : text ≡ printed (line_text tool end)

@@ -1,5 +1,5 @@
 -- What the parts of a run do, seen on the wire.
-use Rattle.std.specs.Prelude.{◌≡◌, ◌⊎◌, ℕ, true, List, [], ◌∷◌, Option, Some, None, IsTrue, IsFalse, Result, Ok, Err}
+use Rattle.std.specs.Prelude.{◌≡◌, ◌⊎◌, ℕ, true, List, [], Option, Some, None, IsTrue, IsFalse, Result, Ok, Err}
 use Rattle.std.specs.List.{list_any}
 use Rattle.ec_types.specs.declared.bus.BusKind.TheVariants.{Lpc}
 use Rattle.ec_model.specs.declared.event.Entry.{Entry}
@@ -10,7 +10,7 @@ use Rattle.ec_wire.specs.Calls.{WireView, with_spare}
 use Rattle.bench_wire.specs.Adding.{Adds, Extends}
 use Rattle.script_words.specs.Lines.{does_nothing}
 use Rattle.ectool_lines.specs.declared.tool.Tool.{Tool}
-use Rattle.ectool_lines.specs.Tools.{tool_of}
+use Rattle.ectool_lines.specs.Tools.{tool_of, IsInRange}
 use Rattle.ectool_lines.specs.Running.{Appends, AppendsFront, Carries}
 use Rattle.ectool_lines.specs.Asking.{Hears}
 use Rattle.ecbench.specs.declared.run.Exit.{Exit}
@@ -38,6 +38,7 @@ pub record CarriesLine (number : ℕ) (line text : List ℕ) (old new : WireView
   pub does_something : IsFalse (does_nothing line)
   pub tool : Tool
   pub says : tool_of line ≡ Ok tool
+  pub within : IsInRange tool
   pub marked : WireView
   pub marks : MarksLine number old marked
   pub carries : Carries tool text marked new

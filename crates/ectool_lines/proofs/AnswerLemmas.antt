@@ -1,14 +1,14 @@
 -- Commands of a line where nothing disturbs them: each is handled and answered.
-use Rattle.std.proofs.Common.{◌≡◌, refl, sym, ap, ◌∙◌, subst, ℕ, zero, suc, ◌+◌, ◌≤◌, ◌<◌, ◌==◌, Bool, true, false, not, ◌&&◌, ◌||◌, if◌then◌else◌, List, [], ◌∷◌, ◌++◌, length, map, arith}
-use Rattle.std.specs.List.{list_all, list_any}
+use Rattle.std.proofs.Common.{◌≡◌, refl, sym, ap, ◌∙◌, subst, ℕ, zero, suc, ◌≤◌, ◌<◌, ◌==◌, Bool, true, false, not, ◌&&◌, ◌||◌, if◌then◌else◌, List, [], ◌∷◌, ◌++◌, length, map, arith}
+use Rattle.std.specs.List.{list_any}
 use Rattle.std.proofs.lemmas.Bool.Decides.{eqb_tells}
 use Rattle.ec_types.specs.LittleEndian.{u16_at}
 use Rattle.ec_types.specs.declared.bus.BusKind.TheVariants.{Lpc}
 use Rattle.ec_model.specs.declared.event.Entry.{Entry}
-use Rattle.ec_model.specs.Packet.{request_packet, response_packet, response_view}
-use Rattle.ec_model.specs.Bus.{OnLpc, BusState, low_status}
-use Rattle.ec_model.specs.HostCalls.{HostCall, Did, Waited, on_after, calls_of}
-use Rattle.ec_model.specs.Heard.{Heard, Reply}
+use Rattle.ec_model.specs.Packet.{request_packet, response_packet}
+use Rattle.ec_model.specs.Bus.{OnLpc, low_status}
+use Rattle.ec_model.specs.HostCalls.{HostCall, Did, Waited, on_after}
+use Rattle.ec_model.specs.Heard.{Reply}
 use Rattle.ec_model.specs.Table.{Table, Awake, On, Core, Valid, core_of, table_of}
 use Rattle.ec_model.specs.Answer.{Outcome, Answered, Restarts}
 use Rattle.ec_model.specs.Handle.{handled}
@@ -21,12 +21,12 @@ use Rattle.host_runs.specs.Served.{IsPlain, IsAnswer}
 use Rattle.host_runs.proofs.LpcExchange.{exchange-run}
 use Rattle.host_runs.proofs.Plain.{plain-answered}
 use Rattle.host_runs.proofs.Response.{eq-true}
-use Rattle.host_transport.specs.Once.{Ending, Said, SentOnce, ended, heard_as, Bad}
+use Rattle.host_transport.specs.Once.{Ending, Said, ended, heard_as, Bad}
 use Rattle.ectool_lines.specs.declared.tool.Tool.{Tool}
 use Rattle.ectool_lines.specs.Tools.{IsInRange}
 use Rattle.ectool_lines.specs.Requests.{Asked, packet_of, first_of, count_of, command_of, commands_of}
 use Rattle.ectool_lines.specs.Texts.{LineEnd, Succeeded, Stopped}
-use Rattle.ectool_lines.specs.Asking.{AllSucceed, StopsAt, AsksEach, Hears}
+use Rattle.ectool_lines.specs.Asking.{AllSucceed, AsksEach, Hears}
 use Rattle.ectool_lines.specs.Answering.{Answers}
 use Rattle.ectool_lines.proofs.SendLemmas.{command-short, command-plain}
 use Rattle.ectool_lines.proofs.WantLemmas.{HasWanted, command-wanted}

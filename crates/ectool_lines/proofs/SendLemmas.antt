@@ -1,11 +1,10 @@
 -- Commands of a line, one after the other.
-use Rattle.std.proofs.Common.{◌≡◌, refl, sym, ap, ◌∙◌, subst, ℕ, zero, suc, ◌+◌, ◌-◌, ◌*◌, ◌/◌, ◌%◌, ◌^◌, ◌==◌, ◌<◌, ◌≤◌, Bool, true, false, ◌&&◌, List, [], ◌∷◌, ◌++◌, length, take, drop, append_assoc, append-nil, ◌⊎◌, inl, inr, arith}
+use Rattle.std.proofs.Common.{◌≡◌, refl, sym, ap, ◌∙◌, subst, ℕ, zero, suc, ◌+◌, ◌-◌, ◌*◌, ◌/◌, ◌%◌, ◌^◌, ◌==◌, ◌<◌, ◌≤◌, Bool, false, ◌&&◌, List, [], ◌∷◌, ◌++◌, length, take, drop, append_assoc, append-nil, ◌⊎◌, inl, inr, arith}
 use Rattle.std.proofs.lemmas.Bool.{cases_lt}
 use Rattle.ec_model.proofs.GuardSteps.{if_cases}
 use Rattle.std.specs.Prelude.{replicate}
 use Rattle.std.proofs.lemmas.Bool.Decides.{eqb_tells}
 use Rattle.std.proofs.lemmas.List.{length-take, length-append, length-replicate}
-use Rattle.std.specs.List.{list_all, list_any}
 use Rattle.ec_types.specs.Tables.{packet_limit}
 use Rattle.ec_types.specs.declared.bus.BusKind.{BusKind}
 use Rattle.ec_types.specs.declared.bus.BusKind.TheVariants.{Lpc}
@@ -13,8 +12,7 @@ use Rattle.ec_types.specs.LittleEndian.{u32_bytes}
 use Rattle.ec_model.specs.Bodies.{flash_write_ask, test_ask}
 use Rattle.ec_model.specs.InfoRows.{zero_padded}
 use Rattle.ec_model.specs.declared.event.Entry.{Entry}
-use Rattle.ec_model.specs.declared.event.Entry.TheVariants.{Step, Mark}
-use Rattle.ec_wire.specs.Calls.{WireView, Grows, is_wire_step}
+use Rattle.ec_wire.specs.Calls.{WireView, Grows}
 use Rattle.ec_wire.proofs.Growth.{grows-nil, grows-then}
 use Rattle.host_runs.specs.Served.{IsPlain, is_cold_body}
 use Rattle.host_runs.proofs.Spelled.{plain-spelled}

@@ -1,24 +1,24 @@
 -- A success of a line's command has as many bytes as the line wants.
-use Rattle.std.proofs.Common.{◌≡◌, refl, sym, ap, ◌∙◌, subst, ℕ, ◌+◌, ◌-◌, ◌*◌, ◌%◌, ◌^◌, ◌<◌, ◌≤◌, ◌==◌, Bool, true, false, not, ◌&&◌, ◌||◌, nat_lt, if◌then◌else◌, List, [], length, take, drop, min, Option, Some, None, Result, Ok, Err, arith, length-take}
+use Rattle.std.proofs.Common.{◌≡◌, refl, sym, ◌∙◌, subst, ℕ, ◌+◌, ◌-◌, ◌*◌, ◌%◌, ◌^◌, ◌<◌, ◌≤◌, ◌==◌, Bool, true, false, not, ◌&&◌, ◌||◌, nat_lt, if◌then◌else◌, List, [], length, take, drop, min, Option, Some, None, Result, Ok, Err, arith, length-take}
 use Rattle.std.specs.Prelude.{is_some}
 use Rattle.std.proofs.lemmas.List.{length-drop}
 use Rattle.std.proofs.lemmas.Bool.Decides.{leb_tells, eqb_tells}
 use Rattle.ec_types.specs.LittleEndian.{u16_at, u32_at}
-use Rattle.ec_model.specs.Bodies.{hello_ask, cmd_versions_ask1, region_info_ask, test_ask, flash_read_ask, flash_write_ask}
-use Rattle.ec_model.specs.Packet.{RequestView, request_packet, framing}
+use Rattle.ec_model.specs.Bodies.{hello_ask, cmd_versions_ask1, region_info_ask, test_ask, flash_read_ask}
+use Rattle.ec_model.specs.Packet.{RequestView, request_packet}
 use Rattle.ec_model.specs.Ranges.{Range, part, ends_within, region_range}
 use Rattle.ec_model.specs.Commands.{is_write_spelled, known}
 use Rattle.ec_model.specs.InfoRows.{zero_padded, mask_told, range_told, test_row}
 use Rattle.ec_model.specs.Table.{Core, is_blocked}
 use Rattle.ec_model.specs.Answer.{Outcome, Answered, Restarts, done}
-use Rattle.ec_model.specs.FlashRows.{unless_refused, asked_range, read_refusal, flash_read_row, write_refusal, flash_write_row, written, is_whole_units}
+use Rattle.ec_model.specs.FlashRows.{unless_refused, asked_range, flash_read_row, flash_write_row, written, is_whole_units}
 use Rattle.ec_model.specs.Handle.{Admitted, row_of, admitted_from, handled}
 use Rattle.ec_model.proofs.GuardSteps.{if_cases}
 use Rattle.host_runs.proofs.Spelled.{framing-spelled}
 use Rattle.ectool_lines.specs.declared.tool.Tool.{Tool}
 use Rattle.ectool_lines.specs.declared.tool.Tool.TheVariants.{Hello, ChipInfo, CmdVersions, ProtoInfo, FlashInfo, RegionInfo, FlashRead, FlashWrite, Test}
 use Rattle.ectool_lines.specs.Tools.{IsInRange}
-use Rattle.ectool_lines.specs.Requests.{Asked, region_number, packet_of, command_of, hello_command, read_command, write_command}
+use Rattle.ectool_lines.specs.Requests.{region_number, packet_of, command_of}
 use Rattle.ectool_lines.proofs.SendLemmas.{command-short, padded-length}
 
 -- an answer with a status of 16 bits, that has so many bytes where it is a success

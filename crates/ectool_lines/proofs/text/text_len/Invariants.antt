@@ -1,4 +1,4 @@
-use Rattle.std.proofs.Common.{◌≡◌, ℕ, ◌+◌, ◌==◌, not, drop}
+use Rattle.std.proofs.Common.{◌≡◌, ◌+◌, ◌==◌, not, drop}
 use Rattle.std.specs.List.{prefix_len}
 use Rattle.ectool_lines.proofs.text.text_len.Given as goal
 

@@ -1,5 +1,4 @@
-use Rattle.std.proofs.Common.{◌≡◌, ap, ◌∙◌, sym, ◌++◌, ℕ, List}
-use Rattle.ectool_lines.specs.Texts.{chip_text}
+use Rattle.std.proofs.Common.{ap, ◌∙◌, sym, ◌++◌, ℕ, List}
 use Rattle.ectool_lines.proofs.ReplyLemmas.{chip-read}
 use Rattle.ectool_lines.proofs.text.LineText.add_chip.Goals as goal
 

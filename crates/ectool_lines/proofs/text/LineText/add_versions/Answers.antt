@@ -1,4 +1,4 @@
-use Rattle.std.proofs.Common.{◌≡◌, ap, ◌∙◌, sym, ◌++◌, ℕ, List, codes, arith}
+use Rattle.std.proofs.Common.{ap, ◌∙◌, sym, ◌++◌, ℕ, codes, arith}
 use Rattle.ectool_lines.specs.Texts.{hex_text}
 use Rattle.ectool_lines.proofs.ReplyLemmas.{mask-read}
 use Rattle.ectool_lines.proofs.text.LineText.add_versions.Goals as goal
