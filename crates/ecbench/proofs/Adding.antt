@@ -1,41 +1,24 @@
 -- Entries that a line adds.
-use Rattle.std.proofs.Common.{◌≡◌, refl, ◌∙◌, subst, ℕ, Bool, true, false, ◌||◌, List, [], ◌∷◌, ◌++◌}
-use Rattle.std.specs.List.{list_any}
+use Rattle.std.proofs.Common.{◌≡◌, refl, sym, ap, ◌∙◌, subst, ℕ, Bool, false, List, [], ◌∷◌, codes, inl, inr, Option, Result, Ok, Err}
 use Rattle.ec_types.specs.Tables.{packet_limit}
 use Rattle.ec_types.specs.declared.bus.BusKind.{BusKind}
 use Rattle.ec_types.specs.declared.bus.BusKind.TheVariants.{Lpc}
+use Rattle.ec_model.specs.declared.event.Event.{Event}
+use Rattle.ec_model.specs.declared.event.WorldEvent.{WorldEvent}
 use Rattle.ec_model.specs.declared.event.Entry.{Entry}
-use Rattle.ec_model.specs.declared.event.Entry.TheVariants.{Mark}
-use Rattle.ec_model.specs.Upset.{is_world, is_changed}
-use Rattle.ec_wire.specs.Calls.{WireView, Grows, with_spare}
-use Rattle.bench_wire.specs.Adding.{Extends}
+use Rattle.ec_model.specs.declared.event.Entry.TheVariants.{Step, Mark}
+use Rattle.ec_model.specs.HostCalls.{on_after_entry}
+use Rattle.ec_wire.specs.Calls.{WireView, with_spare}
+use Rattle.bench_wire.specs.Adding.{Extends, IsEvent}
 use Rattle.bench_wire.proofs.Extending.{extends-then, extends-grows, extends-nil}
 use Rattle.ectool_lines.specs.Requests.{commands_of}
+use Rattle.ectool_lines.specs.Texts.{printed}
 use Rattle.ectool_lines.specs.Asking.{AsksEach, Hears}
-use Rattle.ecbench.specs.Lines.{CarriesOut}
-use Rattle.ecbench.specs.Serving.{Behaves, MarksLine, CarriesLine}
-
--- a test that none of two lists passes
-any-append : (test : Entry → Bool) (first second : List Entry) → list_any test first ≡ false → list_any test second ≡ false → list_any test (first ++ second) ≡ false
-any-append test [] second none others = others
-any-append test (entry ∷ first) second none others = by (test entry) (any-append test first second) none
-  where
-    by : (here : Bool) → (list_any test first ≡ false → list_any test second ≡ false → list_any test (first ++ second) ≡ false) → (here || list_any test first) ≡ false → (here || list_any test (first ++ second)) ≡ false
-    by true rest same = cc
-    by false rest same = rest same others
-
--- nothing was added
-pub behaves-nil : (view : WireView) → Behaves [] view view
-behaves-nil view = record { extends = extends-nil view.spare view; no_event = refl; no_byte = refl }
-
--- entries behind others
-pub behaves-then : (first second : List Entry) (old middle new : WireView) → Behaves first old middle → Behaves second middle new → Behaves (first ++ second) old new
-behaves-then first second old middle new once again =
-    record {
-      extends = extends-then first second old middle new once.extends again.extends;
-      no_event = any-append is_world first second once.no_event again.no_event;
-      no_byte = any-append is_changed first second once.no_byte again.no_byte;
-    }
+use Rattle.ecbench.specs.declared.run.Exit.{Exit}
+use Rattle.ecbench.specs.declared.run.Exit.TheVariants.{Done, BadWords, BadFlash, BadLine, SourceFault, SinkFault, NoMemory, ScriptTooLong}
+use Rattle.ecbench.specs.Lines.{Happens, deed_of, DoesDeed, WasCarried, HasHappened}
+use Rattle.ecbench.specs.Endings.{seen}
+use Rattle.ecbench.specs.Serving.{MarksLine, CarriesLine, HappensLine, HappensMarked, DoesLine, Carried, Happened, ServesLine, ServesEvent}
 
 -- the same from another room
 extends-spare : (spare : ℕ) (added : List Entry) (old new : WireView) → Extends added (with_spare spare old) new → Extends added old new
@@ -43,41 +26,90 @@ extends-spare spare added old new e =
     record { entries = e.entries; on = e.on; bus = e.bus; armed = e.armed; faults = e.faults; cuts = e.cuts; run = e.run }
 
 -- a mark
-pub marks-behaves : (number : ℕ) (old new : WireView) → MarksLine number old new → Behaves (Mark number ∷ []) old new
-marks-behaves number old new marks = record { extends = extends-spare marks.spare (Mark number ∷ []) old new marks.adds.extends; no_event = refl; no_byte = refl }
+pub marks-extends : (number : ℕ) (old new : WireView) → MarksLine number old new → Extends (Mark number ∷ []) old new
+marks-extends number old new marks = extends-spare marks.spare (Mark number ∷ []) old new marks.adds.extends
 
--- what the host's calls add, where nothing is armed
-grows-behaves : (spare : ℕ) (added : List Entry) (old new : WireView) → old.armed ≡ false → Grows added (with_spare spare old) new → Behaves added old new
-grows-behaves spare added old new disarmed grows =
-    let quiet = grows.quiet disarmed in
-    record { extends = extends-spare spare added old new (extends-grows added (with_spare spare old) new grows); no_event = quiet.no_event; no_byte = quiet.no_byte }
+-- nothing
+pub extends-none : (view : WireView) → Extends [] view view
+extends-none view = extends-nil view.spare view
 
--- a line that was carried out: its entries, and what they are
+-- a line that was done: its entries, and what they are
 pub record LineAdds (number : ℕ) (line text : List ℕ) (old new : WireView) : Type 0 where
   pub added : List Entry
-  pub behaves : Behaves added old new
-  pub carries : CarriesOut (Hears Lpc) number old.on line added text new.on
+  pub extends : Extends added old new
+  pub does : DoesDeed seen number old.on line added text new.on
 
-pub line-adds : (number : ℕ) (line text : List ℕ) (old new : WireView) → old.bus ≡ Lpc → old.armed ≡ false → CarriesLine number line text old new → LineAdds number line text old new
-line-adds number line text old new lpc disarmed carried =
+carried-adds : (number : ℕ) (line text : List ℕ) (old new : WireView) → old.bus ≡ Lpc → old.armed ≡ false → CarriesLine number line text old new → LineAdds number line text old new
+carried-adds number line text old new lpc disarmed carried =
     let marked = carried.marked in
-    let mark = marks-behaves number old marked carried.marks in
+    let mark = marks-extends number old marked carried.marks in
     let tool = carried.carries.carried in
-    let bus : marked.bus ≡ Lpc = mark.extends.bus ∙ lpc in
+    let bus : marked.bus ≡ Lpc = mark.bus ∙ lpc in
     let asks : AsksEach (Hears Lpc) marked.on (commands_of (packet_limit Lpc) carried.tool) tool.added tool.end new.on =
     subst (λ (kind : BusKind). AsksEach (Hears kind) marked.on (commands_of (packet_limit kind) carried.tool) tool.added tool.end new.on) bus tool.asks in
+    let quiet = tool.grows.quiet (mark.armed disarmed) in
     record {
       added = Mark number ∷ tool.added;
-      behaves = behaves-then (Mark number ∷ []) tool.added old marked new mark (grows-behaves carried.carries.spare tool.added marked new (mark.extends.armed disarmed) tool.grows);
-      carries = record {
+      extends = extends-then (Mark number ∷ []) tool.added old marked new mark
+          (extends-spare carried.carries.spare tool.added marked new (extends-grows tool.added (with_spare carried.carries.spare marked) new tool.grows));
+      does = WasCarried (record {
         tool = carried.tool;
         end = tool.end;
         own = tool.added;
-        does_something = carried.does_something;
-        says = carried.says;
+        wants = carried.wants;
         within = carried.within;
         entries_are = refl;
-        asks_each = subst (λ (on : Bool). AsksEach (Hears Lpc) on (commands_of (packet_limit Lpc) carried.tool) tool.added tool.end new.on) mark.extends.on asks;
-        text_is = tool.text_is;
-      };
+        alone = quiet.no_event;
+        unchanged = quiet.no_byte;
+        asks_each = subst (λ (on : Bool). AsksEach (Hears Lpc) on (commands_of (packet_limit Lpc) carried.tool) tool.added tool.end new.on) mark.on asks;
+        said_is = tool.text_is;
+      });
     }
+
+happened-adds : (number : ℕ) (line text : List ℕ) (old new : WireView) → HappensLine number line old new → text ≡ printed (codes "ok") → LineAdds number line text old new
+happened-adds number line text old new happened said =
+    let mark = marks-extends number old happened.marked happened.marks in
+    let step = happened.adds.extends in
+    record {
+      added = Mark number ∷ Step happened.event 0 0 0 happened.hurt ∷ [];
+      extends = extends-then (Mark number ∷ []) (Step happened.event 0 0 0 happened.hurt ∷ []) old happened.marked new mark step;
+      does = HasHappened (record {
+        event = happened.event;
+        hurt = happened.hurt;
+        wants = happened.wants;
+        entries_are = refl;
+        goes = (step.on ∙ ap (λ (on : Bool). on_after_entry (Step happened.event 0 0 0 happened.hurt) on) mark.on, λ cut. sym mark.on ∙ happened.alive cut);
+        said_is = said;
+      });
+    }
+
+pub line-adds : (number : ℕ) (line text : List ℕ) (old new : WireView) → old.bus ≡ Lpc → old.armed ≡ false → DoesLine number line text old new → LineAdds number line text old new
+line-adds number line text old new lpc disarmed (Carried carries) = carried-adds number line text old new lpc disarmed carries
+line-adds number line text old new lpc disarmed (Happened happened said) = happened-adds number line text old new happened said
+
+-- an event of the world, for a line that wants it
+pub event-line : (number : ℕ) (line : List ℕ) (happened : WorldEvent) (event : Event) (old new : WireView) → deed_of line ≡ Ok (Happens event) → ((other : Event) → IsEvent happened other → other ≡ event) → HappensMarked number happened old new → HappensLine number line old new
+event-line number line happened event old new wants same marked =
+    let now = marked.happens in
+    record {
+      event = now.event;
+      hurt = now.hurt;
+      wants = wants ∙ ap (λ (e : Event). Ok (Happens e)) (sym (same now.event now.is_event));
+      marked = marked.marked;
+      marks = marked.marks;
+      alive = now.alive;
+      adds = now.adds;
+    }
+
+-- what was done with an event, for a line that wants it
+pub event-serves : (result : Result (Unit {0}) Exit) (number : ℕ) (line : List ℕ) (happened : WorldEvent) (event : Event) (old new : WireView) (before after : Option (List ℕ)) → deed_of line ≡ Ok (Happens event) → ((other : Event) → IsEvent happened other → other ≡ event) →
+    ServesEvent result number happened old new before after → ServesLine result number line old new before after
+event-serves (Ok done) number line happened event old new before after wants same (marked, said) = inr (printed (codes "ok"), Happened (event-line number line happened event old new wants same marked) refl, said)
+event-serves (Err SinkFault) number line happened event old new before after wants same (marked, said) = (printed (codes "ok"), Happened (event-line number line happened event old new wants same marked) refl, said)
+event-serves (Err NoMemory) number line happened event old new before after wants same (still, unsaid) = (inl still, unsaid)
+event-serves (Err Done) number line happened event old new before after wants same never = absurd never
+event-serves (Err BadWords) number line happened event old new before after wants same never = absurd never
+event-serves (Err BadFlash) number line happened event old new before after wants same never = absurd never
+event-serves (Err (BadLine at reason)) number line happened event old new before after wants same never = absurd never
+event-serves (Err SourceFault) number line happened event old new before after wants same never = absurd never
+event-serves (Err ScriptTooLong) number line happened event old new before after wants same never = absurd never

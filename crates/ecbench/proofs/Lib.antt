@@ -1,5 +1,6 @@
 pub mod Doing
 pub mod Adding
+pub mod EventLemmas
 pub mod Undisturbed
 pub mod ServedLemmas
 pub mod Powering

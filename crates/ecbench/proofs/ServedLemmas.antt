@@ -21,18 +21,22 @@ use Rattle.line_reader.proofs.Splitting.{Splits, splits-nothing, line-splits, li
 use Rattle.std.specs.Prelude.{codes, nat_eq, is_ok, ◌&&◌, ◌||◌, ◌==◌}
 use Rattle.std.specs.List.{list_any, starts_with}
 use Rattle.script_words.specs.Words.{words_of}
-use Rattle.script_words.specs.Lines.{checked, is_unprintable}
+use Rattle.script_words.specs.Lines.{checked, is_unprintable, does_nothing}
 use Rattle.script_words.specs.Forms.{◌>>=◌}
 use Rattle.ectool_lines.specs.Running.{Appends}
-use Rattle.ectool_lines.specs.Asking.{Hears}
-use Rattle.ectool_lines.specs.Tools.{tool_by}
 use Rattle.ecbench.specs.declared.run.Exit.{Exit}
 use Rattle.ecbench.specs.declared.run.Exit.TheVariants.{Done, BadWords, BadFlash, BadLine, SourceFault, SinkFault, NoMemory, ScriptTooLong}
-use Rattle.ecbench.specs.Lines.{CarriesOut, IsDone, WasPassed, WasCarried, AreDone, IsFaulty}
+use Rattle.ecbench.specs.Lines.{DoesDeed, IsDone, WasPassed, WasDone, AreDone, IsFaulty, deed_by}
+use Rattle.ecbench.specs.Endings.{seen}
+use Rattle.bench_wire.specs.Adding.{Extends}
+use Rattle.bench_wire.proofs.Extending.{extends-then}
+use Rattle.script_lines.specs.declared.line.Line.{Line as ScriptLine}
+use Rattle.script_lines.specs.declared.line.Line.TheVariants.{Nothing}
+use Rattle.script_lines.specs.Lines.{line_of, line_by}
 use Rattle.ecbench.specs.Scripts.{IsScript, Plays, IsLine}
-use Rattle.ecbench.specs.Serving.{Behaves, Serves, ServesLine, PassesLine, CarriesLine, MarksLine, exit_at}
+use Rattle.ecbench.specs.Serving.{Serves, ServesLine, PassesLine, DoesLine, MarksLine, exit_at}
 use Rattle.ecbench.proofs.Doing.{done-more}
-use Rattle.ecbench.proofs.Adding.{behaves-nil, behaves-then, marks-behaves, line-adds}
+use Rattle.ecbench.proofs.Adding.{extends-none, marks-extends, line-adds}
 
 -- what is left of a source; nothing where that is not told
 abbrev rest_of : Option (List ℕ) → List ℕ
@@ -77,9 +81,9 @@ pub record Served (number : ℕ) (opened now : WireView) (reader : ReaderView) (
   pub number_is : number ≡ length raws + 1
   pub few : number ≤ length used + 1
   pub own : List Entry
-  pub behaves : Behaves own opened now
+  pub extends : Extends own opened now
   pub text : List ℕ
-  pub done : AreDone (Hears Lpc) 1 opened.on (map without_return raws) own text now.on
+  pub done : AreDone seen 1 opened.on (map without_return raws) own text now.on
   pub printed : Appends text before after
 
 -- nothing was read yet
@@ -94,7 +98,7 @@ served-nothing opened left before reader fresh none =
       number_is = refl;
       few = omega arith;
       own = [];
-      behaves = behaves-nil opened;
+      extends = extends-none opened;
       text = [];
       done = (refl, refl, refl);
       printed = appends-nothing before;
@@ -118,14 +122,14 @@ serves-failed number opened now reader after_reader left rest more before after 
     let lines = failed-lines served.raws served.used served.splits reader after_reader all served.read finds.says in
     record {
       own = served.own;
-      behaves = served.behaves;
+      extends = served.extends;
       plays = (
         served.used ++ all,
         taken-more number opened now reader left rest more before after finds.came served finds.taken,
         record {
           text = served.text;
           new = now.on;
-          done = subst (λ (ls : List (List ℕ)). AreDone (Hears Lpc) 1 opened.on ls served.own served.text now.on) (sym lines) served.done;
+          done = subst (λ (ls : List (List ℕ)). AreDone seen 1 opened.on ls served.own served.text now.on) (sym lines) served.done;
           printed = served.printed;
         },
       );
@@ -150,14 +154,14 @@ serves-end number opened now reader after_reader left rest more before after ser
     let lines_are : lines_of served.used ≡ map without_return served.raws = sym (script-fits served.used fits) ∙ ap script_lines (sym same) ∙ lines in
     record {
       own = served.own;
-      behaves = served.behaves;
+      extends = served.extends;
       plays = (
         served.used,
         record { takes = subst (λ (bytes : List ℕ). Takes bytes left more) whole taken; end = end.left; fits = fits },
         record {
           text = served.text;
           new = now.on;
-          done = subst (λ (ls : List (List ℕ)). AreDone (Hears Lpc) 1 opened.on ls served.own served.text now.on) (sym lines_are) served.done;
+          done = subst (λ (ls : List (List ℕ)). AreDone seen 1 opened.on ls served.own served.text now.on) (sym lines_are) served.done;
           printed = served.printed;
         },
       );
@@ -177,21 +181,21 @@ serves-full number opened now reader after_reader left rest more before after se
     length-append served.used all ∙ ap (λ (n : ℕ). length served.used + n) (ap length full.bytes ∙ length-append full.raw full.more) in
     record {
       own = served.own;
-      behaves = served.behaves;
+      extends = served.extends;
       plays = (
         script,
         record { taken = served.used ++ all; is_script = is-script (served.used ++ all) left more taken; long = omega (arith, size, served.read, full.read, full.some) },
         record {
           text = served.text;
           new = now.on;
-          done = subst (λ (ls : List (List ℕ)). AreDone (Hears Lpc) 1 opened.on ls served.own served.text now.on) (sym lines_are) served.done;
+          done = subst (λ (ls : List (List ℕ)). AreDone seen 1 opened.on ls served.own served.text now.on) (sym lines_are) served.done;
           printed = served.printed;
         },
       );
     }
 
 -- what was done before a line
-abbrev before-line : (number : ℕ) (opened now : WireView) (reader : ReaderView) (left rest before after : Option (List ℕ)) → (served : Served number opened now reader left rest before after) → Plays (Hears Lpc) opened.on (map without_return served.raws) served.own before after
+abbrev before-line : (number : ℕ) (opened now : WireView) (reader : ReaderView) (left rest before after : Option (List ℕ)) → (served : Served number opened now reader left rest before after) → Plays seen opened.on (map without_return served.raws) served.own before after
 before-line number opened now reader left rest before after served = record { text = served.text; new = now.on; done = served.done; printed = served.printed }
 
 -- a test and one that does not hold
@@ -205,10 +209,10 @@ long-faulty line long =
     let test : nat_lt 16384 (length line) ≡ true = lt-ltb longest_line (length line) long in
     let checked_is : checked line ≡ Err why.TooLong = ap (λ (b : Bool). if b then Err why.TooLong else if list_any is_unprintable line then Err why.Ascii else Ok tt) test in
     let front = starts_with nat_eq line (codes "#") || (length (words_of line) == 0) in
-    record {
-      does_something = ap (λ (outcome : Result (Unit {0}) Why). front && is_ok outcome) checked_is ∙ and-none front;
-      says = ap (λ (outcome : Result (Unit {0}) Why). outcome >>= λ _. tool_by (words_of line)) checked_is;
-    }
+    let something : does_nothing line ≡ false = ap (λ (outcome : Result (Unit {0}) Why). front && is_ok outcome) checked_is ∙ and-none front in
+    let read : line_of line ≡ Err why.TooLong =
+    ap (λ (b : Bool). if b then Ok Nothing else (checked line >>= λ _. line_by (words_of line))) something ∙ ap (λ (outcome : Result (Unit {0}) Why). outcome >>= λ _. line_by (words_of line)) checked_is in
+    ap (λ (outcome : Result ScriptLine Why). outcome >>= λ found. deed_by line found) read
 
 -- the same, as if what is left were told
 told-over : (given : ℕ) (raw others : List ℕ) (rest : Option (List ℕ)) → IsOver given raw others rest → IsOver given raw others (Some (rest_of rest))
@@ -230,7 +234,7 @@ serves-long number opened now reader after_reader left rest more before after se
     let script = (served.used ++ all) ++ rest_of more in
     record {
       own = served.own;
-      behaves = served.behaves;
+      extends = served.extends;
       plays = (
         script,
         served.used ++ all,
@@ -290,41 +294,41 @@ at-last number opened now reader after_reader left rest more before after served
 record LineDid (number : ℕ) (line : List ℕ) (old new : WireView) (before after : Option (List ℕ)) : Type 0 where
   pub own : List Entry
   pub said : List ℕ
-  pub behaves : Behaves own old new
-  pub done : IsDone (Hears Lpc) number old.on line own said new.on
+  pub extends : Extends own old new
+  pub done : IsDone seen number old.on line own said new.on
   pub printed : Appends said before after
 
-line-did : (number : ℕ) (line : List ℕ) (old new : WireView) (before after : Option (List ℕ)) → old.bus ≡ Lpc → old.armed ≡ false → PassesLine line old new before after ⊎ ((text : List ℕ) × CarriesLine number line text old new × Appends text before after) → LineDid number line old new before after
+line-did : (number : ℕ) (line : List ℕ) (old new : WireView) (before after : Option (List ℕ)) → old.bus ≡ Lpc → old.armed ≡ false → PassesLine line old new before after ⊎ ((text : List ℕ) × DoesLine number line text old new × Appends text before after) → LineDid number line old new before after
 line-did number line old new before after lpc disarmed (inl passes) =
     record {
       own = [];
       said = [];
-      behaves = subst (λ (view : WireView). Behaves [] old view) (sym passes.same) (behaves-nil old);
-      done = WasPassed (record { does_nothing = passes.idle; no_entry = refl; no_text = refl; same = ap (λ (view : WireView). view.on) passes.same });
+      extends = subst (λ (view : WireView). Extends [] old view) (sym passes.same) (extends-none old);
+      done = WasPassed (record { wants = passes.wants; no_entry = refl; unsaid = refl; same = ap (λ (view : WireView). view.on) passes.same });
       printed = passes.unprinted;
     }
 line-did number line old new before after lpc disarmed (inr (text, carries, printed)) =
     let adds = line-adds number line text old new lpc disarmed carries in
-    record { own = adds.added; said = text; behaves = adds.behaves; done = WasCarried adds.carries; printed = printed }
+    record { own = adds.added; said = text; extends = adds.extends; done = WasDone adds.does; printed = printed }
 
 -- a line behind others
 record DidMore (number : ℕ) (raws : List (List ℕ)) (line : List ℕ) (opened new : WireView) (before later : Option (List ℕ)) : Type 0 where
   pub own : List Entry
-  pub behaves : Behaves own opened new
+  pub extends : Extends own opened new
   pub text : List ℕ
-  pub done : AreDone (Hears Lpc) 1 opened.on (map without_return raws ++ line ∷ []) own text new.on
+  pub done : AreDone seen 1 opened.on (map without_return raws ++ line ∷ []) own text new.on
   pub printed : Appends text before later
 
 did-more : (number : ℕ) (opened now new : WireView) (reader : ReaderView) (line : List ℕ) (left rest before after printed : Option (List ℕ)) → (served : Served number opened now reader left rest before after) → opened.bus ≡ Lpc → opened.armed ≡ false →
     ServesLine (Ok tt) number line now new after printed → DidMore number served.raws line opened new before printed
 did-more number opened now new reader line left rest before after printed served lpc disarmed line_done =
-    let extends = served.behaves.extends in
+    let extends = served.extends in
     let did = line-did number line now new after printed (extends.bus ∙ lpc) (extends.armed disarmed) line_done in
     record {
       own = served.own ++ did.own;
-      behaves = behaves-then served.own did.own opened now new served.behaves did.behaves;
+      extends = extends-then served.own did.own opened now new served.extends did.extends;
       text = served.text ++ did.said;
-      done = done-more (Hears Lpc) 1 opened.on (map without_return served.raws) served.own served.text now.on number line did.own did.said new.on
+      done = done-more seen 1 opened.on (map without_return served.raws) served.own served.text now.on number line did.own did.said new.on
           (omega (arith, line-number number served.raws served.number_is)) served.done did.done;
       printed = appends-then served.text did.said before after printed served.printed did.printed;
     }
@@ -357,9 +361,9 @@ served-more number opened now new reader after_reader left rest more before afte
       number_is = omega (arith, served.number_is, length-append served.raws (found.raw ∷ []));
       few = omega (arith, served.few, served.read, read, found.read);
       own = did.own;
-      behaves = did.behaves;
+      extends = did.extends;
       text = did.text;
-      done = subst (λ (ls : List (List ℕ)). AreDone (Hears Lpc) 1 opened.on ls did.own did.text new.on) (sym lines_are) did.done;
+      done = subst (λ (ls : List (List ℕ)). AreDone seen 1 opened.on ls did.own did.text new.on) (sym lines_are) did.done;
       printed = did.printed;
     }
 
@@ -380,23 +384,23 @@ serves-last number opened now new reader after_reader left rest more before afte
     sym (script-fits script fits) ∙ ap (λ (b : List ℕ). script_lines (served.used ++ b)) (sym (append-nil all)) ∙ lines in
     record {
       own = did.own;
-      behaves = did.behaves;
+      extends = did.extends;
       plays = (
         script,
         record { takes = taken; end = last.left; fits = fits },
         record {
           text = did.text;
           new = new.on;
-          done = subst (λ (ls : List (List ℕ)). AreDone (Hears Lpc) 1 opened.on ls did.own did.text new.on) (sym lines_are) did.done;
+          done = subst (λ (ls : List (List ℕ)). AreDone seen 1 opened.on ls did.own did.text new.on) (sym lines_are) did.done;
           printed = did.printed;
         },
       );
     }
 
 -- at most a mark of a line
-marked-behaves : (number : ℕ) (old new : WireView) → (new ≡ old) ⊎ MarksLine number old new → (last : List Entry) × ((last ≡ []) ⊎ (last ≡ Mark number ∷ [])) × Behaves last old new
-marked-behaves number old new (inl same) = ([], inl refl, subst (λ (view : WireView). Behaves [] old view) (sym same) (behaves-nil old))
-marked-behaves number old new (inr marks) = (Mark number ∷ [], inr refl, marks-behaves number old new marks)
+marked-extends : (number : ℕ) (old new : WireView) → (new ≡ old) ⊎ MarksLine number old new → (last : List Entry) × ((last ≡ []) ⊎ (last ≡ Mark number ∷ [])) × Extends last old new
+marked-extends number old new (inl same) = ([], inl refl, subst (λ (view : WireView). Extends [] old view) (sym same) (extends-none old))
+marked-extends number old new (inr marks) = (Mark number ∷ [], inr refl, marks-extends number old new marks)
 
 -- texts of which nothing follows
 appends-last : (text : List ℕ) (old middle new : Option (List ℕ)) → Appends text old middle → Appends [] middle new → Appends text old new
@@ -408,7 +412,7 @@ pub serves-stopped : (exit : Exit) (number : ℕ) (opened now new : WireView) (r
 serves-stopped (BadLine at reason) number opened now new reader line left rest more before after printed served lpc disarmed at_line (same, faulty, still, unprinted) =
     record {
       own = served.own;
-      behaves = subst (λ (view : WireView). Behaves served.own opened view) (sym still) served.behaves;
+      extends = subst (λ (view : WireView). Extends served.own opened view) (sym still) served.extends;
       plays = (
         at_line.script,
         at_line.taken,
@@ -424,11 +428,11 @@ serves-stopped (BadLine at reason) number opened now new reader line left rest m
       );
     }
 serves-stopped SinkFault number opened now new reader line left rest more before after printed served lpc disarmed at_line (text, carries, front) =
-    let extends = served.behaves.extends in
+    let extends = served.extends in
     let adds = line-adds number line text now new (extends.bus ∙ lpc) (extends.armed disarmed) carries in
     record {
       own = served.own ++ adds.added;
-      behaves = behaves-then served.own adds.added opened now new served.behaves adds.behaves;
+      extends = extends-then served.own adds.added opened now new served.extends adds.extends;
       plays = (
         at_line.script,
         at_line.taken,
@@ -444,16 +448,16 @@ serves-stopped SinkFault number opened now new reader line left rest more before
           new = new.on;
           entries_are = refl;
           plays = before-line number opened now reader left rest before after served;
-          carries = subst (λ (n : ℕ). CarriesOut (Hears Lpc) n now.on line adds.added text new.on) (line-number number served.raws served.number_is) adds.carries;
+          does = subst (λ (n : ℕ). DoesDeed seen n now.on line adds.added text new.on) (line-number number served.raws served.number_is) adds.does;
           printed = front;
         },
       );
     }
 serves-stopped NoMemory number opened now new reader line left rest more before after printed served lpc disarmed at_line (marked, unprinted) =
-    let mark = marked-behaves number now new marked in
+    let mark = marked-extends number now new marked in
     record {
       own = served.own ++ mark.0;
-      behaves = behaves-then served.own mark.0 opened now new served.behaves mark.2;
+      extends = extends-then served.own mark.0 opened now new served.extends mark.2;
       plays = (
         at_line.script,
         at_line.taken,

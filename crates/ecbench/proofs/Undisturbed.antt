@@ -1,128 +1,185 @@
--- A script where nothing disturbs it: each command is handled and answered.
-use Rattle.std.proofs.Common.{◌≡◌, refl, sym, subst, ℕ, ◌+◌, Bool, true, List, [], ◌∷◌, length, Option}
-use Rattle.ec_types.specs.declared.bus.BusKind.TheVariants.{Lpc}
+-- A script where nothing fails: each command is handled and answered, and each event of the world is a whole step.
+use Rattle.std.proofs.Common.{◌≡◌, refl, sym, ap, ◌∙◌, subst, ℕ, ◌+◌, Bool, true, false, ◌||◌, not, List, [], ◌∷◌, ◌++◌, length, Option}
+use Rattle.std.specs.List.{list_any}
 use Rattle.ec_model.specs.declared.event.Entry.{Entry}
-use Rattle.ec_model.specs.declared.event.Entry.TheVariants.{Mark}
-use Rattle.ec_model.specs.Table.{Table, Core}
+use Rattle.ec_model.specs.declared.event.Entry.TheVariants.{Step, Mark}
+use Rattle.ec_model.specs.declared.event.Event.{Event}
+use Rattle.ec_model.specs.declared.event.Hurt.{Hurt}
+use Rattle.ec_model.specs.declared.event.Hurt.TheVariants.{Whole, Failed, Cut}
+use Rattle.ec_model.specs.HostCalls.{on_after_entry}
+use Rattle.ec_model.specs.Table.{Table}
 use Rattle.ec_model.specs.Run.{IsRun}
-use Rattle.ec_model.specs.Upset.{IsUndisturbed}
+use Rattle.ec_model.specs.Work.{After}
+use Rattle.ec_model.specs.WholeStep.{stepped}
+use Rattle.ec_model.specs.Upset.{is_whole, is_hurt, is_world, is_changed, is_upset, AreWhole, IsUndisturbed}
 use Rattle.ec_model.proofs.RunLaws.{run-split}
+use Rattle.host_runs.proofs.CalmRun.{whole_step}
 use Rattle.ectool_lines.specs.Requests.{commands_of}
-use Rattle.ectool_lines.specs.Asking.{Hears}
-use Rattle.ectool_lines.specs.Answering.{Answers}
-use Rattle.ectool_lines.proofs.AnswerLemmas.{Ready, EachAnswered, each-answered, tool-proper, calm-both}
+use Rattle.ectool_lines.proofs.AnswerLemmas.{Ready, EachAnswered, each-answered, tool-proper}
 use Rattle.ecbench.specs.declared.run.Exit.{Exit}
 use Rattle.ecbench.specs.declared.run.Exit.TheVariants.{Done, BadWords, BadFlash, BadLine, SourceFault, SinkFault, NoMemory, ScriptTooLong}
-use Rattle.ecbench.specs.Lines.{CarriesOut, IsDone, WasPassed, WasCarried, AreDone}
+use Rattle.ecbench.specs.Lines.{CarriesOut, HappensOnce, DoesDeed, WasCarried, HasHappened, IsDone, WasPassed, WasDone, AreDone}
 use Rattle.ecbench.specs.Scripts.{Plays, PlaysUpTo}
+use Rattle.ecbench.specs.Endings.{seen, undisturbed}
+use Rattle.ecbench.proofs.EventLemmas.{event-ready, deed-world}
 
--- a line that was carried out by a controller that was ready
-record LineAnswered (number : ℕ) (core : Core) (line : List ℕ) (entries : List Entry) (text : List ℕ) (after : Bool) (last : Table) : Type 0 where
-  pub new : Core
-  pub carries : CarriesOut Answers number core line entries text new
-  pub ready : Ready new last
-  pub on : after ≡ true
+-- nothing fails in either of two lists of entries
+whole-both : (first second : List Entry) → AreWhole (first ++ second) → AreWhole first × AreWhole second
+whole-both [] second whole = (refl, whole)
+whole-both (entry ∷ first) second whole = later (is_hurt entry) (whole-both first second) whole
+  where
+    later : (here : Bool) → (AreWhole (first ++ second) → AreWhole first × AreWhole second) → (here || list_any is_hurt (first ++ second)) ≡ false →
+        ((here || list_any is_hurt first) ≡ false) × (list_any is_hurt second ≡ false)
+    later true rest same = cc
+    later false rest same = rest same
 
-line-answered : (number : ℕ) (core : Core) (table last : Table) (line : List ℕ) (entries : List Entry) (text : List ℕ) (after : Bool) → Ready core table → CarriesOut (Hears Lpc) number true line entries text after → IsRun table entries last → IsUndisturbed entries →
-    LineAnswered number core line entries text after last
-line-answered number core table last line entries text after ready carries run calm =
+-- neither of two tests holds
+neither : (a b : Bool) → (a || b) ≡ false → (a ≡ false) × (b ≡ false)
+neither true b same = (same, cc)
+neither false b same = (refl, same)
+
+-- three tests that do not hold
+none-of : (world hurt changed : Bool) → world ≡ false → hurt ≡ false → changed ≡ false → (world || hurt || changed) ≡ false
+none-of false false false first second third = refl
+none-of false false true first second third = third
+none-of false true changed first second third = second
+none-of true hurt changed first second third = first
+
+-- entries that nothing disturbs
+calm-of : (entries : List Entry) → list_any is_world entries ≡ false → AreWhole entries → list_any is_changed entries ≡ false → IsUndisturbed entries
+calm-of [] world whole changed = refl
+calm-of (entry ∷ entries) world whole changed =
+    let w = neither (is_world entry) (list_any is_world entries) world in
+    let h = neither (is_hurt entry) (list_any is_hurt entries) whole in
+    let c = neither (is_changed entry) (list_any is_changed entries) changed in
+    ap (λ (first : Bool). first || list_any is_upset entries) (none-of (is_world entry) (is_hurt entry) (is_changed entry) w.0 h.0 c.0) ∙ calm-of entries w.1 h.1 c.1
+
+-- an entry in which nothing fails
+hurt-whole : (hurt : Hurt) → (not (is_whole hurt) || false) ≡ false → hurt ≡ Whole
+hurt-whole Whole same = refl
+hurt-whole Failed same = cc
+hurt-whole Cut same = cc
+
+-- a line that was done
+record DidWhole (number : ℕ) (table : Table) (text : List ℕ) (entries : List Entry) (said : List ℕ) (after : Bool) (last : Table) : Type 0 where
+  pub does : DoesDeed undisturbed number table text entries said last
+  pub ready : Ready after last
+
+-- a line that sends commands
+carried-whole : (number : ℕ) (on : Bool) (table last : Table) (text : List ℕ) (entries : List Entry) (said : List ℕ) (after : Bool) → Ready on table → CarriesOut seen number on text entries said after → IsRun table entries last → AreWhole entries → DidWhole number table text entries said after last
+carried-whole number on table last text entries said after ready carries run whole =
     let marked : IsRun table (Mark number ∷ carries.own) last = subst (λ (e : List Entry). IsRun table e last) carries.entries_are run in
     let own_run : IsRun table carries.own last = subst (λ (t : Table). IsRun t carries.own last) marked.1 marked.2 in
-    let own_calm : IsUndisturbed carries.own = subst (λ (e : List Entry). IsUndisturbed e) carries.entries_are calm in
-    let each : EachAnswered core (commands_of 256 carries.tool) carries.own carries.end after last =
-    each-answered core table last (commands_of 256 carries.tool) carries.own carries.end after ready (tool-proper carries.tool carries.within) carries.asks_each own_run own_calm in
+    let own_whole : AreWhole carries.own = subst (λ (e : List Entry). AreWhole e) carries.entries_are whole in
+    let each : EachAnswered table (commands_of 256 carries.tool) carries.own carries.end after last =
+    each-answered on table last (commands_of 256 carries.tool) carries.own carries.end after ready (tool-proper carries.tool carries.within) carries.asks_each own_run (calm-of carries.own carries.alone own_whole carries.unchanged) in
     record {
-      new = each.new;
-      carries = record {
+      does = WasCarried (record {
         tool = carries.tool;
         end = carries.end;
         own = carries.own;
-        does_something = carries.does_something;
-        says = carries.says;
+        wants = carries.wants;
         within = carries.within;
         entries_are = carries.entries_are;
+        alone = carries.alone;
+        unchanged = carries.unchanged;
         asks_each = each.asks;
-        text_is = carries.text_is;
-      };
+        said_is = carries.said_is;
+      });
       ready = each.ready;
-      on = each.on;
     }
 
--- a line that was done
-record DoneAnswered (number : ℕ) (core : Core) (line : List ℕ) (entries : List Entry) (text : List ℕ) (after : Bool) (last : Table) : Type 0 where
-  pub new : Core
-  pub done : IsDone Answers number core line entries text new
-  pub ready : Ready new last
-  pub on : after ≡ true
+-- the table that an event leads to
+event-table : (table last : Table) (event : Event) → IsRun table (Step event 0 0 0 Whole ∷ []) last → last ≡ (stepped table event).table
+event-table table last event (middle, leaves, same) = same ∙ ap (λ (after : After). after.table) (whole_step table event (record { table = middle; answer = 0 }) leaves)
 
-done-answered : (number : ℕ) (core : Core) (table last : Table) (line : List ℕ) (entries : List Entry) (text : List ℕ) (after : Bool) → Ready core table → IsDone (Hears Lpc) number true line entries text after → IsRun table entries last → IsUndisturbed entries →
-    DoneAnswered number core line entries text after last
-done-answered number core table last line entries text after ready (WasPassed passes) run calm =
+-- a line with an event of the world
+happened-whole : (number : ℕ) (on : Bool) (table last : Table) (text : List ℕ) (entries : List Entry) (said : List ℕ) (after : Bool) → Ready on table → HappensOnce seen number on text entries said after → IsRun table entries last → AreWhole entries → DidWhole number table text entries said after last
+happened-whole number on table last text entries said after ready happened run whole =
+    let event = happened.event in
+    let event_whole : AreWhole (Step event 0 0 0 happened.hurt ∷ []) = subst (λ (e : List Entry). AreWhole e) happened.entries_are whole in
+    let hurt : happened.hurt ≡ Whole = hurt-whole happened.hurt event_whole in
+    let entries_are = happened.entries_are ∙ ap (λ (h : Hurt). Mark number ∷ Step event 0 0 0 h ∷ []) hurt in
+    let marked : IsRun table (Mark number ∷ Step event 0 0 0 Whole ∷ []) last = subst (λ (e : List Entry). IsRun table e last) entries_are run in
+    let own_run : IsRun table (Step event 0 0 0 Whole ∷ []) last = subst (λ (t : Table). IsRun t (Step event 0 0 0 Whole ∷ []) last) marked.1 marked.2 in
+    let same = event-table table last event own_run in
+    let on_is = happened.goes.0 ∙ ap (λ (h : Hurt). on_after_entry (Step event 0 0 0 h) on) hurt in
+    record {
+      does = HasHappened (record { event = event; hurt = Whole; wants = happened.wants; entries_are = entries_are; goes = (refl, same); said_is = happened.said_is });
+      ready = subst (λ (o : Bool). Ready o last) (sym on_is) (event-ready event on table last (deed-world text event happened.wants) ready own_run same);
+    }
+
+did-whole : (number : ℕ) (on : Bool) (table last : Table) (text : List ℕ) (entries : List Entry) (said : List ℕ) (after : Bool) → Ready on table → DoesDeed seen number on text entries said after → IsRun table entries last → AreWhole entries → DidWhole number table text entries said after last
+did-whole number on table last text entries said after ready (WasCarried carries) run whole = carried-whole number on table last text entries said after ready carries run whole
+did-whole number on table last text entries said after ready (HasHappened happened) run whole = happened-whole number on table last text entries said after ready happened run whole
+
+-- a line that was done or passed over
+record DoneWhole (number : ℕ) (table : Table) (text : List ℕ) (entries : List Entry) (said : List ℕ) (after : Bool) (last : Table) : Type 0 where
+  pub done : IsDone undisturbed number table text entries said last
+  pub ready : Ready after last
+
+done-whole : (number : ℕ) (on : Bool) (table last : Table) (text : List ℕ) (entries : List Entry) (said : List ℕ) (after : Bool) → Ready on table → IsDone seen number on text entries said after → IsRun table entries last → AreWhole entries → DoneWhole number table text entries said after last
+done-whole number on table last text entries said after ready (WasPassed passes) run whole =
     let same : last ≡ table = subst (λ (e : List Entry). IsRun table e last) passes.no_entry run in
     record {
-      new = core;
-      done = WasPassed (record { does_nothing = passes.does_nothing; no_entry = passes.no_entry; no_text = passes.no_text; same = refl });
-      ready = subst (λ (t : Table). Ready core t) (sym same) ready;
-      on = passes.same;
+      done = WasPassed (record { wants = passes.wants; no_entry = passes.no_entry; unsaid = passes.unsaid; same = same });
+      ready = subst (λ (o : Bool). Ready o last) (sym passes.same) (subst (λ (t : Table). Ready on t) (sym same) ready);
     }
-done-answered number core table last line entries text after ready (WasCarried carries) run calm =
-    let answered = line-answered number core table last line entries text after ready carries run calm in
-    record { new = answered.new; done = WasCarried answered.carries; ready = answered.ready; on = answered.on }
+done-whole number on table last text entries said after ready (WasDone does) run whole =
+    let did = did-whole number on table last text entries said after ready does run whole in
+    record { done = WasDone did.does; ready = did.ready }
 
 -- lines that were done
-record AllAnswered (number : ℕ) (core : Core) (lines : List (List ℕ)) (entries : List Entry) (text : List ℕ) (after : Bool) (last : Table) : Type 0 where
-  pub new : Core
-  pub done : AreDone Answers number core lines entries text new
-  pub ready : Ready new last
-  pub on : after ≡ true
+record AllWhole (number : ℕ) (table : Table) (texts : List (List ℕ)) (entries : List Entry) (said : List ℕ) (after : Bool) (last : Table) : Type 0 where
+  pub done : AreDone undisturbed number table texts entries said last
+  pub ready : Ready after last
 
-all-answered : (number : ℕ) (core : Core) (table last : Table) (lines : List (List ℕ)) (entries : List Entry) (text : List ℕ) (after : Bool) → Ready core table → AreDone (Hears Lpc) number true lines entries text after → IsRun table entries last → IsUndisturbed entries →
-    AllAnswered number core lines entries text after last
-all-answered number core table last [] entries text after ready (none, no_text, on) run calm =
+all-whole : (number : ℕ) (on : Bool) (table last : Table) (texts : List (List ℕ)) (entries : List Entry) (said : List ℕ) (after : Bool) → Ready on table → AreDone seen number on texts entries said after → IsRun table entries last → AreWhole entries → AllWhole number table texts entries said after last
+all-whole number on table last [] entries said after ready (none, unsaid, still) run whole =
     let same : last ≡ table = subst (λ (e : List Entry). IsRun table e last) none run in
-    record { new = core; done = (none, no_text, refl); ready = subst (λ (t : Table). Ready core t) (sym same) ready; on = on }
-all-answered number core table last (line ∷ lines) entries text after ready (first, rest, said, more, middle, entries_are, text_is, done, others) run calm =
+    record { done = (none, unsaid, same); ready = subst (λ (o : Bool). Ready o last) (sym still) (subst (λ (t : Table). Ready on t) (sym same) ready) }
+all-whole number on table last (text ∷ texts) entries said after ready (first, rest, words, more, middle, entries_are, said_is, done, others) run whole =
     let split = run-split table last first rest (subst (λ (e : List Entry). IsRun table e last) entries_are run) in
-    let calms = calm-both first rest (subst (λ (e : List Entry). IsUndisturbed e) entries_are calm) in
-    let here = done-answered number core table split.0 line first said middle ready done split.1 calms.0 in
-    let on_there : AreDone (Hears Lpc) (number + 1) true lines rest more after = subst (λ (on : Bool). AreDone (Hears Lpc) (number + 1) on lines rest more after) here.on others in
-    let behind = all-answered (number + 1) here.new split.0 last lines rest more after here.ready on_there split.2 calms.1 in
-    record { new = behind.new; done = (first, rest, said, more, here.new, entries_are, text_is, here.done, behind.done); ready = behind.ready; on = behind.on }
+    let wholes = whole-both first rest (subst (λ (e : List Entry). AreWhole e) entries_are whole) in
+    let here = done-whole number on table split.0 text first words middle ready done split.1 wholes.0 in
+    let behind = all-whole (number + 1) middle split.0 last texts rest more after here.ready others split.2 wholes.1 in
+    record { done = (first, rest, words, more, split.0, entries_are, said_is, here.done, behind.done); ready = behind.ready }
 
 -- lines that were done and printed
-record PlaysAnswered (core : Core) (lines : List (List ℕ)) (entries : List Entry) (before after : Option (List ℕ)) (on_after : Bool) (last : Table) : Type 0 where
-  pub plays : Plays Answers core lines entries before after
-  pub ready : Ready plays.new last
-  pub on : on_after ≡ true
+record PlaysWhole (table : Table) (texts : List (List ℕ)) (entries : List Entry) (before after : Option (List ℕ)) (on_after : Bool) (last : Table) : Type 0 where
+  pub text : List ℕ
+  pub done : AreDone undisturbed 1 table texts entries text last
+  pub plays : Plays undisturbed table texts entries before after
+  pub same : plays.new ≡ last
+  pub ready : Ready on_after last
 
-plays-answered : (core : Core) (table last : Table) (lines : List (List ℕ)) (entries : List Entry) (before after : Option (List ℕ)) → Ready core table → (plays : Plays (Hears Lpc) true lines entries before after) → IsRun table entries last → IsUndisturbed entries →
-    PlaysAnswered core lines entries before after plays.new last
-plays-answered core table last lines entries before after ready plays run calm =
-    let all = all-answered 1 core table last lines entries plays.text plays.new ready plays.done run calm in
-    record { plays = record { text = plays.text; new = all.new; done = all.done; printed = plays.printed }; ready = all.ready; on = all.on }
+plays-whole : (on : Bool) (table last : Table) (texts : List (List ℕ)) (entries : List Entry) (before after : Option (List ℕ)) → Ready on table → (plays : Plays seen on texts entries before after) → IsRun table entries last → AreWhole entries →
+    PlaysWhole table texts entries before after plays.new last
+plays-whole on table last texts entries before after ready plays run whole =
+    let all = all-whole 1 on table last texts entries plays.text plays.new ready plays.done run whole in
+    record { text = plays.text; done = all.done; plays = record { text = plays.text; new = last; done = all.done; printed = plays.printed }; same = refl; ready = all.ready }
 
 -- a script, as far as the exit says
-pub upto-answered : (exit : Exit) (core : Core) (table last : Table) (entries : List Entry) (left rest before after : Option (List ℕ)) → Ready core table → PlaysUpTo (Hears Lpc) true exit entries left rest before after → IsRun table entries last → IsUndisturbed entries →
-    PlaysUpTo Answers core exit entries left rest before after
-upto-answered Done core table last entries left rest before after ready (script, whole, plays) run calm =
-    (script, whole, (plays-answered core table last _ entries before after ready plays run calm).plays)
-upto-answered (BadLine number reason) core table last entries left rest before after ready (script, taken, line, lines, is_script, faulty, stops) run calm = (
+pub upto-whole : (exit : Exit) (on : Bool) (table last : Table) (entries : List Entry) (left rest before after : Option (List ℕ)) → Ready on table → PlaysUpTo seen on exit entries left rest before after → IsRun table entries last → AreWhole entries →
+    PlaysUpTo undisturbed table exit entries left rest before after
+upto-whole Done on table last entries left rest before after ready (script, all, plays) run whole =
+    (script, all, (plays-whole on table last _ entries before after ready plays run whole).plays)
+upto-whole (BadLine number reason) on table last entries left rest before after ready (script, taken, line, lines, is_script, faulty, stops) run whole = (
   script,
   taken,
   line,
   lines,
   is_script,
   faulty,
-  record { is_line = stops.is_line; number_is = stops.number_is; plays = (plays-answered core table last lines entries before after ready stops.plays run calm).plays },
+  record { is_line = stops.is_line; number_is = stops.number_is; plays = (plays-whole on table last lines entries before after ready stops.plays run whole).plays },
 )
-upto-answered SourceFault core table last entries left rest before after ready (taken, takes, plays) run calm =
-    (taken, takes, (plays-answered core table last _ entries before after ready plays run calm).plays)
-upto-answered SinkFault core table last entries left rest before after ready (script, taken, line, lines, is_script, is_line, stops) run calm =
+upto-whole SourceFault on table last entries left rest before after ready (taken, takes, plays) run whole =
+    (taken, takes, (plays-whole on table last _ entries before after ready plays run whole).plays)
+upto-whole SinkFault on table last entries left rest before after ready (script, taken, line, lines, is_script, is_line, stops) run whole =
     let split = run-split table last stops.first stops.last (subst (λ (e : List Entry). IsRun table e last) stops.entries_are run) in
-    let calms = calm-both stops.first stops.last (subst (λ (e : List Entry). IsUndisturbed e) stops.entries_are calm) in
-    let front = plays-answered core table split.0 lines stops.first before stops.between ready stops.plays split.1 calms.0 in
-    let carries : CarriesOut (Hears Lpc) (length lines + 1) true line stops.last stops.text stops.new = subst (λ (on : Bool). CarriesOut (Hears Lpc) (length lines + 1) on line stops.last stops.text stops.new) front.on stops.carries in
-    let here = line-answered (length lines + 1) front.plays.new split.0 last line stops.last stops.text stops.new front.ready carries split.2 calms.1 in (
+    let wholes = whole-both stops.first stops.last (subst (λ (e : List Entry). AreWhole e) stops.entries_are whole) in
+    let front = plays-whole on table split.0 lines stops.first before stops.between ready stops.plays split.1 wholes.0 in
+    let here = did-whole (length lines + 1) stops.plays.new split.0 last line stops.last stops.text stops.new front.ready stops.does split.2 wholes.1 in (
       script,
       taken,
       line,
@@ -134,19 +191,19 @@ upto-answered SinkFault core table last entries left rest before after ready (sc
         last = stops.last;
         between = stops.between;
         text = stops.text;
-        new = here.new;
+        new = last;
         entries_are = stops.entries_are;
         plays = front.plays;
-        carries = here.carries;
+        does = subst (λ (t : Table). DoesDeed undisturbed (length lines + 1) t line stops.last stops.text last) (sym front.same) here.does;
         printed = stops.printed;
       },
     )
-upto-answered NoMemory core table last entries left rest before after ready (script, taken, line, lines, is_script, is_line, stops) run calm =
+upto-whole NoMemory on table last entries left rest before after ready (script, taken, line, lines, is_script, is_line, stops) run whole =
     let split = run-split table last stops.first stops.last (subst (λ (e : List Entry). IsRun table e last) stops.entries_are run) in
-    let calms = calm-both stops.first stops.last (subst (λ (e : List Entry). IsUndisturbed e) stops.entries_are calm) in
-    let front = plays-answered core table split.0 lines stops.first before after ready stops.plays split.1 calms.0 in
+    let wholes = whole-both stops.first stops.last (subst (λ (e : List Entry). AreWhole e) stops.entries_are whole) in
+    let front = plays-whole on table split.0 lines stops.first before after ready stops.plays split.1 wholes.0 in
     (script, taken, line, lines, is_script, is_line, record { first = stops.first; last = stops.last; entries_are = stops.entries_are; marked = stops.marked; plays = front.plays })
-upto-answered ScriptTooLong core table last entries left rest before after ready (script, long, plays) run calm =
-    (script, long, (plays-answered core table last _ entries before after ready plays run calm).plays)
-upto-answered BadWords core table last entries left rest before after ready never run calm = absurd never
-upto-answered BadFlash core table last entries left rest before after ready never run calm = absurd never
+upto-whole ScriptTooLong on table last entries left rest before after ready (script, long, plays) run whole =
+    (script, long, (plays-whole on table last _ entries before after ready plays run whole).plays)
+upto-whole BadWords on table last entries left rest before after ready never run whole = absurd never
+upto-whole BadFlash on table last entries left rest before after ready never run whole = absurd never

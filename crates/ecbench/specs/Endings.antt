@@ -6,22 +6,24 @@ use Rattle.flash_dev.specs.Told.{Changes}
 use Rattle.flash_dev.specs.Counts.{Rose}
 use Rattle.flash_dev.specs.Device.{DeviceView}
 use Rattle.ec_model.specs.Ranges.{is_flash_size}
-use Rattle.ec_model.specs.Boot.{booted}
-use Rattle.ec_model.specs.Table.{Table, Core}
+use Rattle.ec_model.specs.Boot.{booted_table}
+use Rattle.ec_model.specs.HostCalls.{on_after_entry}
+use Rattle.ec_model.specs.WholeStep.{stepped}
+use Rattle.ec_model.specs.declared.event.Event.{Event}
+use Rattle.ec_model.specs.Table.{Table}
 use Rattle.ec_model.specs.Run.{IsRun, opening}
 use Rattle.ec_model.specs.declared.event.Entry.{Entry}
 use Rattle.ec_model.specs.declared.event.Entry.TheVariants.{Step}
 use Rattle.ec_model.specs.declared.event.Event.TheVariants.{Power}
 use Rattle.ec_model.specs.declared.event.Hurt.{Hurt}
-use Rattle.ec_model.specs.declared.event.Hurt.TheVariants.{Whole}
-use Rattle.host_transport.specs.Once.{Ending}
-use Rattle.ectool_lines.specs.Requests.{Asked}
+use Rattle.ec_model.specs.declared.event.Hurt.TheVariants.{Whole, Cut}
 use Rattle.ectool_lines.specs.Running.{Appends}
 use Rattle.ectool_lines.specs.Asking.{Hears}
 use Rattle.ectool_lines.specs.Answering.{Answers}
 use Rattle.ecbench.specs.declared.run.Exit.{Exit}
 use Rattle.ecbench.specs.declared.run.Exit.TheVariants.{BadWords, BadFlash, NoMemory}
 use Rattle.ecbench.specs.Words.{are_words}
+use Rattle.ecbench.specs.Lines.{Life}
 use Rattle.ecbench.specs.Scripts.{PlaysUpTo}
 
 -- power comes; a read of the flash may fail in the boot
@@ -34,14 +36,14 @@ pub record IsStarted (words : List (List ℕ)) (size : ℕ) : Type 0 where
   pub sized : IsTrue (is_flash_size size)
 
 -- power came, in this state the controller was then, and the script was carried out as far as the exit says
-pub record Begins {State : Type 0} (starts : Hurt → State → Type 0) (asks : State → Asked → List Entry → Ending → State → Type 0)
+pub record Begins {State : Type 0} (starts : Hurt → State → Type 0) (life : Life State)
     (exit : Exit) (left rest before after : Option (List ℕ)) (entries : List Entry) : Type 0 where
   pub boot : Hurt
   pub opened : State
   pub own : List Entry
   pub starts_so : starts boot opened
   pub entries_are : entries ≡ power_on boot ∷ own
-  pub plays : PlaysUpTo asks opened exit own left rest before after
+  pub plays : PlaysUpTo life opened exit own left rest before after
 
 -- nothing happened at all
 pub record NothingHappened (left rest before after : Option (List ℕ)) (entries : List Entry) : Type 0 where
@@ -51,34 +53,48 @@ pub record NothingHappened (left rest before after : Option (List ℕ)) (entries
 
 -- what an exit says: of the words and the flash's size, of what the source had and has left, of what was printed before and
 -- is now, and of the journal
-abbrev pub Ends : {State : Type 0} → (Hurt → State → Type 0) → (State → Asked → List Entry → Ending → State → Type 0) →
-    Exit → List (List ℕ) → (size : ℕ) → (left rest before after : Option (List ℕ)) → List Entry → Type 0
-Ends starts asks BadWords words size left rest before after entries =
+abbrev pub Ends : {State : Type 0} → (Hurt → State → Type 0) → Life State → Exit → List (List ℕ) → (size : ℕ) → (left rest before after : Option (List ℕ)) → List Entry → Type 0
+Ends starts life BadWords words size left rest before after entries =
     IsFalse (are_words words) × NothingHappened left rest before after entries
-Ends starts asks BadFlash words size left rest before after entries =
+Ends starts life BadFlash words size left rest before after entries =
     IsTrue (are_words words) × IsFalse (is_flash_size size) × NothingHappened left rest before after entries
-Ends starts asks NoMemory words size left rest before after entries =
+Ends starts life NoMemory words size left rest before after entries =
     IsStarted words size
-    × (NothingHappened left rest before after entries ⊎ Begins starts asks NoMemory left rest before after entries)
-Ends starts asks exit words size left rest before after entries =
-    IsStarted words size × Begins starts asks exit left rest before after entries
+    × (NothingHappened left rest before after entries ⊎ Begins starts life NoMemory left rest before after entries)
+Ends starts life exit words size left rest before after entries =
+    IsStarted words size × Begins starts life exit left rest before after entries
 
 -- as the host sees it: the controller is on at first
 abbrev pub StartsOn : Hurt → Bool → Type 0
 StartsOn boot on = on ≡ true
 
+-- as the host sees it: an event changes the power, or loses it where it is on
+abbrev pub HappensSeen : Bool → Event → Hurt → Bool → Type 0
+HappensSeen old event hurt new = (new ≡ on_after_entry (Step event 0 0 0 hurt) old) × (hurt ≡ Cut → old ≡ true)
+
+-- a controller as the host sees it: whether it is on
+abbrev pub seen : Life Bool
+seen = record { asks = Hears Lpc; happens = HappensSeen }
+
 -- what each exit says, as the host sees it
 abbrev pub EndsAsSeen : Exit → List (List ℕ) → (size : ℕ) → (left rest before after : Option (List ℕ)) → List Entry → Type 0
-EndsAsSeen = Ends StartsOn (Hears Lpc)
+EndsAsSeen = Ends StartsOn seen
 
--- where nothing disturbs it: the controller has booted from this flash, and the boot read it; then each command is handled
--- and answered (`Answers`)
-abbrev pub StartsBooted : List ℕ → Hurt → Core → Type 0
-StartsBooted flash boot core = (boot ≡ Whole) × (core ≡ booted flash true PowerOn false)
+-- where nothing disturbs it: the controller has booted from this flash, and the boot read it
+abbrev pub StartsBooted : List ℕ → Hurt → Table → Type 0
+StartsBooted flash boot table = (boot ≡ Whole) × (table ≡ booted_table flash true Lpc PowerOn false)
+
+-- where nothing disturbs it: an event is a step in which nothing fails
+abbrev pub HappensWhole : Table → Event → Hurt → Table → Type 0
+HappensWhole old event hurt new = (hurt ≡ Whole) × (new ≡ (stepped old event).table)
+
+-- a controller that nothing disturbs but the events of the script's lines: all that it holds
+abbrev pub undisturbed : Life Table
+undisturbed = record { asks = Answers; happens = HappensWhole }
 
 -- what each exit says, where nothing fails in a flash with these bytes
 abbrev pub EndsUndisturbed : List ℕ → Exit → List (List ℕ) → (size : ℕ) → (left rest before after : Option (List ℕ)) → List Entry → Type 0
-EndsUndisturbed flash = Ends (StartsBooted flash) Answers
+EndsUndisturbed flash = Ends (StartsBooted flash) undisturbed
 
 -- the flash counted neither a fault nor a cut
 pub record NothingFailed (old new : DeviceView) : Type 0 where

@@ -1,57 +1,102 @@
--- Lines of a script that are carried out.
---
--- How one command goes is a parameter, a relation of a state before it, the command, its entries, its ending and the state
--- behind it: so the same words tell what the host sees of any controller, and what one that nothing disturbs answers.
-use Rattle.std.specs.Prelude.{◌≡◌, ℕ, ◌+◌, List, [], ◌∷◌, ◌++◌, IsTrue, IsFalse, Ok, Err}
+-- Lines of a script that are done.
+use Rattle.std.specs.Prelude.{◌≡◌, ℕ, ◌+◌, List, [], ◌∷◌, ◌++◌, codes, IsFalse, Result, Ok, Err}
+use Rattle.std.specs.List.{list_any}
 use Rattle.ec_types.specs.Tables.{packet_limit}
 use Rattle.ec_types.specs.declared.bus.BusKind.TheVariants.{Lpc}
 use Rattle.ec_types.specs.declared.why.Why.{Why}
+use Rattle.ec_model.specs.declared.event.Event.{Event}
+use Rattle.ec_model.specs.declared.event.Event.TheVariants as event
 use Rattle.ec_model.specs.declared.event.Entry.{Entry}
-use Rattle.ec_model.specs.declared.event.Entry.TheVariants.{Mark}
+use Rattle.ec_model.specs.declared.event.Entry.TheVariants.{Step, Mark}
+use Rattle.ec_model.specs.declared.event.Hurt.{Hurt}
+use Rattle.ec_model.specs.Upset.{is_world, is_changed}
 use Rattle.host_transport.specs.Once.{Ending}
-use Rattle.script_words.specs.Lines.{does_nothing}
+use Rattle.script_words.specs.Forms.{◌>>=◌}
+use Rattle.script_lines.specs.declared.line.Line.{Line}
+use Rattle.script_lines.specs.declared.line.Line.TheVariants as line
+use Rattle.script_lines.specs.Lines.{line_of}
 use Rattle.ectool_lines.specs.declared.tool.Tool.{Tool}
 use Rattle.ectool_lines.specs.Tools.{tool_of, IsInRange}
 use Rattle.ectool_lines.specs.Requests.{Asked, commands_of}
 use Rattle.ectool_lines.specs.Texts.{LineEnd, line_text, printed}
 use Rattle.ectool_lines.specs.Asking.{AsksEach}
 
--- a line that does something was carried out: its mark, its commands in their order, and its text by how they ended
-pub record CarriesOut {State : Type 0} (asks : State → Asked → List Entry → Ending → State → Type 0)
-    (number : ℕ) (old : State) (line : List ℕ) (entries : List Entry) (text : List ℕ) (new : State) : Type 0 where
+-- what a line wants: nothing, that commands are sent, or that an event of the world happens
+pub data Deed : Type 0 where
+  Nothing : Deed
+  Asks : Tool → Deed
+  Happens : Event → Deed
+
+-- what a line wants that was read so far
+abbrev pub deed_by : List ℕ → Line → Result Deed Why
+deed_by text line.Nothing = Ok Nothing
+deed_by text line.Tool = tool_of text >>= λ tool. Ok (Asks tool)
+deed_by text (line.Pin on) = Ok (Happens (event.Pin on))
+deed_by text (line.Power on) = Ok (Happens (event.Power on))
+deed_by text (line.Reset cause) = Ok (Happens (event.Reset cause))
+
+-- what a line wants, or its first fault
+abbrev pub deed_of : List ℕ → Result Deed Why
+deed_of text = line_of text >>= λ read. deed_by text read
+
+-- How a controller lives, by a state of it: how one command goes, and how an event of the world does. So the same words tell
+-- what the host sees of any controller, and what one that nothing disturbs does.
+pub record Life (State : Type 0) : Type 1 where
+  pub asks : State → Asked → List Entry → Ending → State → Type 0
+  pub happens : State → Event → Hurt → State → Type 0
+
+-- a line was carried out: its mark, its commands in their order, and its text by how they ended; no event of the world falls
+-- among its entries, and no byte is changed
+pub record CarriesOut {State : Type 0} (life : Life State)
+    (number : ℕ) (old : State) (text : List ℕ) (entries : List Entry) (said : List ℕ) (new : State) : Type 0 where
   pub tool : Tool
   pub end : LineEnd
   pub own : List Entry
-  pub does_something : IsFalse (does_nothing line)
-  pub says : tool_of line ≡ Ok tool
+  pub wants : deed_of text ≡ Ok (Asks tool)
   pub within : IsInRange tool
   pub entries_are : entries ≡ Mark number ∷ own
-  pub asks_each : AsksEach asks old (commands_of (packet_limit Lpc) tool) own end new
-  pub text_is : text ≡ printed (line_text tool end)
+  pub alone : IsFalse (list_any is_world own)
+  pub unchanged : IsFalse (list_any is_changed own)
+  pub asks_each : AsksEach life.asks old (commands_of (packet_limit Lpc) tool) own end new
+  pub said_is : said ≡ printed (line_text tool end)
 
--- a line that does nothing was passed over
-pub record PassesOver {State : Type 0} (old : State) (line : List ℕ) (entries : List Entry) (text : List ℕ) (new : State) : Type 0 where
-  pub does_nothing : IsTrue (does_nothing line)
+-- a line's event of the world happened: its mark, its event, and `ok`
+pub record HappensOnce {State : Type 0} (life : Life State)
+    (number : ℕ) (old : State) (text : List ℕ) (entries : List Entry) (said : List ℕ) (new : State) : Type 0 where
+  pub event : Event
+  pub hurt : Hurt
+  pub wants : deed_of text ≡ Ok (Happens event)
+  pub entries_are : entries ≡ Mark number ∷ Step event 0 0 0 hurt ∷ []
+  pub goes : life.happens old event hurt new
+  pub said_is : said ≡ printed (codes "ok")
+
+-- a line that wants nothing was passed over
+pub record PassesOver {State : Type 0} (old : State) (text : List ℕ) (entries : List Entry) (said : List ℕ) (new : State) : Type 0 where
+  pub wants : deed_of text ≡ Ok Nothing
   pub no_entry : entries ≡ []
-  pub no_text : text ≡ []
+  pub unsaid : said ≡ []
   pub same : new ≡ old
 
--- a line was carried out, or passed over where it does nothing
-pub data IsDone {State : Type 0} (asks : State → Asked → List Entry → Ending → State → Type 0)
-    (number : ℕ) (old : State) (line : List ℕ) (entries : List Entry) (text : List ℕ) (new : State) : Type 0 where
-  WasPassed : PassesOver old line entries text new → IsDone asks number old line entries text new
-  WasCarried : CarriesOut asks number old line entries text new → IsDone asks number old line entries text new
+-- a line was done that wants something
+pub data DoesDeed {State : Type 0} (life : Life State)
+    (number : ℕ) (old : State) (text : List ℕ) (entries : List Entry) (said : List ℕ) (new : State) : Type 0 where
+  WasCarried : CarriesOut life number old text entries said new → DoesDeed life number old text entries said new
+  HasHappened : HappensOnce life number old text entries said new → DoesDeed life number old text entries said new
+
+-- a line was done, or passed over where it wants nothing
+pub data IsDone {State : Type 0} (life : Life State)
+    (number : ℕ) (old : State) (text : List ℕ) (entries : List Entry) (said : List ℕ) (new : State) : Type 0 where
+  WasPassed : PassesOver old text entries said new → IsDone life number old text entries said new
+  WasDone : DoesDeed life number old text entries said new → IsDone life number old text entries said new
 
 -- lines were done one after the other, the first of which has this number
-abbrev pub AreDone : {State : Type 0} → (State → Asked → List Entry → Ending → State → Type 0) →
-    ℕ → State → List (List ℕ) → List Entry → List ℕ → State → Type 0
-AreDone asks number old [] entries text new = (entries ≡ []) × (text ≡ []) × (new ≡ old)
-AreDone {State} asks number old (line ∷ lines) entries text new =
-    (first rest : List Entry) × (said more : List ℕ) × (middle : State)
-    × (entries ≡ first ++ rest) × (text ≡ said ++ more)
-    × IsDone asks number old line first said middle × AreDone asks (number + 1) middle lines rest more new
+abbrev pub AreDone : {State : Type 0} → Life State → ℕ → State → List (List ℕ) → List Entry → List ℕ → State → Type 0
+AreDone life number old [] entries said new = (entries ≡ []) × (said ≡ []) × (new ≡ old)
+AreDone {State} life number old (text ∷ texts) entries said new =
+    (first rest : List Entry) × (words more : List ℕ) × (middle : State)
+    × (entries ≡ first ++ rest) × (said ≡ words ++ more)
+    × IsDone life number old text first words middle × AreDone life (number + 1) middle texts rest more new
 
 -- a line is outside the grammar, and this is its first fault
-pub record IsFaulty (line : List ℕ) (reason : Why) : Type 0 where
-  pub does_something : IsFalse (does_nothing line)
-  pub says : tool_of line ≡ Err reason
+abbrev pub IsFaulty : List ℕ → Why → Type 0
+IsFaulty text reason = deed_of text ≡ Err reason

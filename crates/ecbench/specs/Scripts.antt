@@ -2,14 +2,12 @@
 use Rattle.std.specs.Prelude.{◌≡◌, ◌≤◌, ◌⊎◌, ℕ, ◌+◌, List, [], ◌∷◌, ◌++◌, length, Option, IfSome}
 use Rattle.ec_model.specs.declared.event.Entry.{Entry}
 use Rattle.ec_model.specs.declared.event.Entry.TheVariants.{Mark}
-use Rattle.host_transport.specs.Once.{Ending}
 use Rattle.line_reader.specs.Lines.{most_bytes, lines_of, ended_lines, script_lines}
 use Rattle.line_reader.specs.Taking.{Takes}
-use Rattle.ectool_lines.specs.Requests.{Asked}
 use Rattle.ectool_lines.specs.Running.{Appends, AppendsFront}
 use Rattle.ecbench.specs.declared.run.Exit.{Exit}
 use Rattle.ecbench.specs.declared.run.Exit.TheVariants.{Done, BadLine, SourceFault, SinkFault, NoMemory, ScriptTooLong}
-use Rattle.ecbench.specs.Lines.{AreDone, CarriesOut, IsFaulty}
+use Rattle.ecbench.specs.Lines.{Life, AreDone, DoesDeed, IsFaulty}
 
 -- the script is all that a source had, where it tells that, and begins with what was taken from it
 pub record IsScript (script taken : List ℕ) (left rest : Option (List ℕ)) : Type 0 where
@@ -31,11 +29,11 @@ pub record IsLong (script : List ℕ) (left rest : Option (List ℕ)) : Type 0 w
   pub long : most_bytes + 1 ≤ length taken
 
 -- these lines were done, and what they print was printed
-pub record Plays {State : Type 0} (asks : State → Asked → List Entry → Ending → State → Type 0)
+pub record Plays {State : Type 0} (life : Life State)
     (old : State) (lines : List (List ℕ)) (entries : List Entry) (before after : Option (List ℕ)) : Type 0 where
   pub text : List ℕ
   pub new : State
-  pub done : AreDone asks 1 old lines entries text new
+  pub done : AreDone life 1 old lines entries text new
   pub printed : Appends text before after
 
 -- a line of a script, with the lines before it
@@ -44,14 +42,14 @@ pub record IsLine (script : List ℕ) (lines : List (List ℕ)) (line : List ℕ
   pub lines_are : script_lines script ≡ lines ++ line ∷ more
 
 -- the first line that is outside the grammar: those before it were done
-pub record StopsAtFault {State : Type 0} (asks : State → Asked → List Entry → Ending → State → Type 0) (old : State)
+pub record StopsAtFault {State : Type 0} (life : Life State) (old : State)
     (number : ℕ) (script line : List ℕ) (lines : List (List ℕ)) (entries : List Entry) (before after : Option (List ℕ)) : Type 0 where
   pub is_line : IsLine script lines line
   pub number_is : number ≡ length lines + 1
-  pub plays : Plays asks old lines entries before after
+  pub plays : Plays life old lines entries before after
 
 -- the sink failed: the lines before this one were done, it was carried out, and a front of its text was printed
-pub record StopsInText {State : Type 0} (asks : State → Asked → List Entry → Ending → State → Type 0) (old : State)
+pub record StopsInText {State : Type 0} (life : Life State) (old : State)
     (lines : List (List ℕ)) (line : List ℕ) (entries : List Entry) (before after : Option (List ℕ)) : Type 0 where
   pub first : List Entry
   pub last : List Entry
@@ -59,35 +57,34 @@ pub record StopsInText {State : Type 0} (asks : State → Asked → List Entry �
   pub text : List ℕ
   pub new : State
   pub entries_are : entries ≡ first ++ last
-  pub plays : Plays asks old lines first before between
-  pub carries : CarriesOut asks (length lines + 1) plays.new line last text new
+  pub plays : Plays life old lines first before between
+  pub does : DoesDeed life (length lines + 1) plays.new line last text new
   pub printed : AppendsFront text between after
 
 -- memory was refused for this line: the lines before it were done, and of it there is at most its mark
-pub record StopsBefore {State : Type 0} (asks : State → Asked → List Entry → Ending → State → Type 0) (old : State)
+pub record StopsBefore {State : Type 0} (life : Life State) (old : State)
     (lines : List (List ℕ)) (entries : List Entry) (before after : Option (List ℕ)) : Type 0 where
   pub first : List Entry
   pub last : List Entry
   pub entries_are : entries ≡ first ++ last
   pub marked : (last ≡ []) ⊎ (last ≡ Mark (length lines + 1) ∷ [])
-  pub plays : Plays asks old lines first before after
+  pub plays : Plays life old lines first before after
 
 -- what a controller that was powered on did with the script of a source, by how that ended
-abbrev pub PlaysUpTo : {State : Type 0} → (State → Asked → List Entry → Ending → State → Type 0) → State → Exit →
-    List Entry → (left rest before after : Option (List ℕ)) → Type 0
-PlaysUpTo asks old Done entries left rest before after =
-    (script : List ℕ) × IsWhole script left rest × Plays asks old (lines_of script) entries before after
-PlaysUpTo asks old (BadLine number reason) entries left rest before after =
+abbrev pub PlaysUpTo : {State : Type 0} → Life State → State → Exit → List Entry → (left rest before after : Option (List ℕ)) → Type 0
+PlaysUpTo life old Done entries left rest before after =
+    (script : List ℕ) × IsWhole script left rest × Plays life old (lines_of script) entries before after
+PlaysUpTo life old (BadLine number reason) entries left rest before after =
     (script taken line : List ℕ) × (lines : List (List ℕ)) × IsScript script taken left rest × IsFaulty line reason
-    × StopsAtFault asks old number script line lines entries before after
-PlaysUpTo asks old SourceFault entries left rest before after =
-    (taken : List ℕ) × Takes taken left rest × Plays asks old (ended_lines taken) entries before after
-PlaysUpTo asks old SinkFault entries left rest before after =
+    × StopsAtFault life old number script line lines entries before after
+PlaysUpTo life old SourceFault entries left rest before after =
+    (taken : List ℕ) × Takes taken left rest × Plays life old (ended_lines taken) entries before after
+PlaysUpTo life old SinkFault entries left rest before after =
     (script taken line : List ℕ) × (lines : List (List ℕ)) × IsScript script taken left rest × IsLine script lines line
-    × StopsInText asks old lines line entries before after
-PlaysUpTo asks old NoMemory entries left rest before after =
+    × StopsInText life old lines line entries before after
+PlaysUpTo life old NoMemory entries left rest before after =
     (script taken line : List ℕ) × (lines : List (List ℕ)) × IsScript script taken left rest × IsLine script lines line
-    × StopsBefore asks old lines entries before after
-PlaysUpTo asks old ScriptTooLong entries left rest before after =
-    (script : List ℕ) × IsLong script left rest × Plays asks old (script_lines script) entries before after
-PlaysUpTo asks old other entries left rest before after = ⊥
+    × StopsBefore life old lines entries before after
+PlaysUpTo life old ScriptTooLong entries left rest before after =
+    (script : List ℕ) × IsLong script left rest × Plays life old (script_lines script) entries before after
+PlaysUpTo life old other entries left rest before after = ⊥

@@ -1,26 +1,25 @@
 -- What the parts of a run do, seen on the wire.
-use Rattle.std.specs.Prelude.{◌≡◌, ◌⊎◌, ℕ, true, List, [], Option, Some, None, IsTrue, IsFalse, Result, Ok, Err}
-use Rattle.std.specs.List.{list_any}
-use Rattle.ec_types.specs.declared.bus.BusKind.TheVariants.{Lpc}
+use Rattle.std.specs.Prelude.{◌≡◌, ◌⊎◌, ℕ, true, List, [], codes, Option, Some, None, Result, Ok, Err}
 use Rattle.ec_model.specs.declared.event.Entry.{Entry}
-use Rattle.ec_model.specs.declared.event.Entry.TheVariants.{Mark}
+use Rattle.ec_model.specs.declared.event.Entry.TheVariants.{Step, Mark}
+use Rattle.ec_model.specs.declared.event.Event.{Event}
 use Rattle.ec_model.specs.declared.event.Hurt.{Hurt}
-use Rattle.ec_model.specs.Upset.{is_world, is_changed}
+use Rattle.ec_model.specs.declared.event.Hurt.TheVariants.{Cut}
+use Rattle.ec_model.specs.declared.event.WorldEvent.{WorldEvent}
 use Rattle.ec_wire.specs.Calls.{WireView, with_spare}
-use Rattle.bench_wire.specs.Adding.{Adds, Extends}
-use Rattle.script_words.specs.Lines.{does_nothing}
+use Rattle.bench_wire.specs.Adding.{Adds, Extends, Happens as HappensNow}
 use Rattle.ectool_lines.specs.declared.tool.Tool.{Tool}
-use Rattle.ectool_lines.specs.Tools.{tool_of, IsInRange}
+use Rattle.ectool_lines.specs.Tools.{IsInRange}
+use Rattle.ectool_lines.specs.Texts.{printed}
 use Rattle.ectool_lines.specs.Running.{Appends, AppendsFront, Carries}
-use Rattle.ectool_lines.specs.Asking.{Hears}
 use Rattle.ecbench.specs.declared.run.Exit.{Exit}
 use Rattle.ecbench.specs.declared.run.Exit.TheVariants.{Done, BadLine, SinkFault, NoMemory, ScriptTooLong}
 use Rattle.line_reader.specs.declared.reader.Next.{Next}
 use Rattle.line_reader.specs.declared.reader.Next.TheVariants.{Line, Last, End, TooLong, Full}
 use Rattle.ec_types.specs.declared.why.Why.TheVariants as why
-use Rattle.ecbench.specs.Lines.{IsFaulty}
+use Rattle.ecbench.specs.Lines.{Nothing, Asks, Happens, deed_of, IsFaulty}
 use Rattle.ecbench.specs.Scripts.{PlaysUpTo}
-use Rattle.ecbench.specs.Endings.{power_on}
+use Rattle.ecbench.specs.Endings.{power_on, seen}
 
 -- power came
 pub record PowersOn (old new : WireView) : Type 0 where
@@ -35,17 +34,31 @@ pub record MarksLine (number : ℕ) (old new : WireView) : Type 0 where
 
 -- a line was marked and carried out; this is its text
 pub record CarriesLine (number : ℕ) (line text : List ℕ) (old new : WireView) : Type 0 where
-  pub does_something : IsFalse (does_nothing line)
   pub tool : Tool
-  pub says : tool_of line ≡ Ok tool
+  pub wants : deed_of line ≡ Ok (Asks tool)
   pub within : IsInRange tool
   pub marked : WireView
   pub marks : MarksLine number old marked
   pub carries : Carries tool text marked new
 
+-- a line was marked, and its event happened
+pub record HappensLine (number : ℕ) (line : List ℕ) (old new : WireView) : Type 0 where
+  pub event : Event
+  pub hurt : Hurt
+  pub wants : deed_of line ≡ Ok (Happens event)
+  pub marked : WireView
+  pub marks : MarksLine number old marked
+  pub alive : hurt ≡ Cut → marked.on ≡ true
+  pub adds : Adds (Step event 0 0 0 hurt) marked new
+
+-- a line was done, and this is its text
+pub data DoesLine (number : ℕ) (line text : List ℕ) (old new : WireView) : Type 0 where
+  Carried : CarriesLine number line text old new → DoesLine number line text old new
+  Happened : HappensLine number line old new → text ≡ printed (codes "ok") → DoesLine number line text old new
+
 -- a line that does nothing was passed over
 pub record PassesLine (line : List ℕ) (old new : WireView) (before after : Option (List ℕ)) : Type 0 where
-  pub idle : IsTrue (does_nothing line)
+  pub wants : deed_of line ≡ Ok Nothing
   pub same : new ≡ old
   pub unprinted : Appends [] before after
 
@@ -53,11 +66,11 @@ pub record PassesLine (line : List ℕ) (old new : WireView) (before after : Opt
 -- most, since memory was refused
 abbrev pub ServesLine : Result (Unit {0}) Exit → ℕ → List ℕ → WireView → WireView → (before after : Option (List ℕ)) → Type 0
 ServesLine (Ok done) number line old new before after =
-    PassesLine line old new before after ⊎ ((text : List ℕ) × CarriesLine number line text old new × Appends text before after)
+    PassesLine line old new before after ⊎ ((text : List ℕ) × DoesLine number line text old new × Appends text before after)
 ServesLine (Err (BadLine at reason)) number line old new before after =
     (at ≡ number) × IsFaulty line reason × (new ≡ old) × Appends [] before after
 ServesLine (Err SinkFault) number line old new before after =
-    (text : List ℕ) × CarriesLine number line text old new × AppendsFront text before after
+    (text : List ℕ) × DoesLine number line text old new × AppendsFront text before after
 ServesLine (Err NoMemory) number line old new before after =
     ((new ≡ old) ⊎ MarksLine number old new) × Appends [] before after
 ServesLine (Err other) number line old new before after = ⊥
@@ -70,17 +83,26 @@ exit_at End number = Some Done
 exit_at TooLong number = Some (BadLine number why.TooLong)
 exit_at Full number = Some ScriptTooLong
 
--- some entries were added, none of them an event of the world's or with a changed byte
-pub record Behaves (added : List Entry) (old new : WireView) : Type 0 where
-  pub extends : Extends added old new
-  pub no_event : IsFalse (list_any is_world added)
-  pub no_byte : IsFalse (list_any is_changed added)
+-- an event of the world happened behind a line's mark
+pub record HappensMarked (number : ℕ) (happened : WorldEvent) (old new : WireView) : Type 0 where
+  pub marked : WireView
+  pub marks : MarksLine number old marked
+  pub happens : HappensNow happened marked new
+
+-- what was done with an event of the world: it happened, and `ok` was printed, whole or in part; or memory was refused
+abbrev pub ServesEvent : Result (Unit {0}) Exit → ℕ → WorldEvent → WireView → WireView → (before after : Option (List ℕ)) → Type 0
+ServesEvent (Ok done) number happened old new before after =
+    HappensMarked number happened old new × Appends (printed (codes "ok")) before after
+ServesEvent (Err SinkFault) number happened old new before after =
+    HappensMarked number happened old new × AppendsFront (printed (codes "ok")) before after
+ServesEvent (Err NoMemory) number happened old new before after = (new ≡ old) × Appends [] before after
+ServesEvent (Err other) number happened old new before after = ⊥
 
 -- a script was served as far as the exit says
 pub record Serves (exit : Exit) (old new : WireView) (left rest before after : Option (List ℕ)) : Type 0 where
   pub own : List Entry
-  pub behaves : Behaves own old new
-  pub plays : PlaysUpTo (Hears Lpc) old.on exit own left rest before after
+  pub extends : Extends own old new
+  pub plays : PlaysUpTo seen old.on exit own left rest before after
 
 -- nothing was done
 pub record DoesNothing (old new : WireView) (left rest before after : Option (List ℕ)) : Type 0 where

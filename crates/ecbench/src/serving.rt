@@ -1,21 +1,23 @@
 // A script, served line by line.
-ghost use Rattle.std.specs.Prelude.{◌≡◌, ◌≤◌, ◌↔◌, false, IsTrue};
+ghost use Rattle.std.specs.Prelude.{◌≡◌, ◌≤◌, ◌↔◌, false, IsTrue, IsFalse};
 ghost use Rattle.flash_dev.specs.Counts.{Rose};
 ghost use Rattle.ec_types.specs.declared.bus.BusKind.TheVariants.{Lpc as LpcKind};
 ghost use Rattle.bench_wire.specs.BenchView.{wire_view};
-ghost use Rattle.ecbench.specs.Serving.{Drives, Serves, PowersOn, ServesLine, exit_at};
+ghost use Rattle.bench_wire.specs.Adding.{is_byte};
+ghost use Rattle.script_lines.specs.Lines.{line_of};
+ghost use Rattle.ecbench.specs.Serving.{Drives, Serves, PowersOn, ServesLine, ServesEvent, exit_at};
 
 use crate::run::Exit;
-use bench_io::{Sink, Source};
+use bench_io::{Sink, Source, put_all};
 use bench_wire::Bench;
 use bus_lpc::Lpc;
 use ec_model::WorldEvent;
 use ec_types::Why;
 use ec_wire::Wire;
-use ectool_lines::{ToolErr, parse, run};
+use ectool_lines::{ToolErr, run};
 use flash_dev::{Failed, FlashDev};
 use line_reader::{LineReader, Next};
-use script_words::is_idle;
+use script_lines::Line;
 
 /// The most lines that a script can have: each but the last takes a byte, of which there are at most 16,777,216.
 const MOST_LINES: u32 = 16_777_217;
@@ -99,7 +101,7 @@ fn exit_at(next: Next, number: u32) -> Option<Exit>
     }
 }
 
-// Carries out a line, passes over one that does nothing, or refuses one that is outside the grammar.
+// Does a line, passes over one that does nothing, or refuses one that is outside the grammar.
 fn serve_line<F: FlashDev, K: Sink>(
     bench: &mut Bench<Lpc, F>,
     number: u32,
@@ -110,10 +112,29 @@ fn serve_line<F: FlashDev, K: Sink>(
     ensures sink_fault { result ≡ Err Exit.SinkFault → Rose (K.faults sink.old) (K.faults sink.new) }
     ensures later { K.faults sink.old ≤ K.faults sink.new }
 {
-    if is_idle(line) {
-        return Ok(());
+    match script_lines::parse(line) {
+        Ok(Line::Nothing) => Ok(()),
+        Ok(Line::Tool) => serve_tool(bench, number, line, sink),
+        Ok(Line::Pin { on }) => serve_event(bench, number, WorldEvent::Pin { on }, sink),
+        Ok(Line::Power { on }) => serve_event(bench, number, WorldEvent::Power { on }, sink),
+        Ok(Line::Reset { cause }) => serve_event(bench, number, WorldEvent::Reset { cause }, sink),
+        Err(why) => Err(Exit::BadLine { line: number, why }),
     }
-    let tool = match parse(line) {
+}
+
+// Carries out a line that sends commands, or refuses one that is outside the grammar.
+fn serve_tool<F: FlashDev, K: Sink>(
+    bench: &mut Bench<Lpc, F>,
+    number: u32,
+    line: &[u8],
+    sink: &mut K,
+) -> Result<(), Exit>
+    requires { line_of line.now ≡ Ok Line.Tool }
+    ensures serves { ServesLine result number line.now (wire_view LpcKind bench.old) (wire_view LpcKind bench.new) (K.written sink.old) (K.written sink.new) }
+    ensures sink_fault { result ≡ Err Exit.SinkFault → Rose (K.faults sink.old) (K.faults sink.new) }
+    ensures later { K.faults sink.old ≤ K.faults sink.new }
+{
+    let tool = match ectool_lines::parse(line) {
         Ok(tool) => tool,
         Err(why) => return Err(Exit::BadLine { line: number, why }),
     };
@@ -126,5 +147,29 @@ fn serve_line<F: FlashDev, K: Sink>(
         Ok(()) => Ok(()),
         Err(ToolErr::Sink) => Err(Exit::SinkFault),
         Err(ToolErr::NoMemory) => Err(Exit::NoMemory),
+    }
+}
+
+// An event of the world happens, and `ok` is printed.
+fn serve_event<F: FlashDev, K: Sink>(
+    bench: &mut Bench<Lpc, F>,
+    number: u32,
+    happened: WorldEvent,
+    sink: &mut K,
+) -> Result<(), Exit>
+    requires { IsFalse (is_byte happened) }
+    ensures serves { ServesEvent result number happened (wire_view LpcKind bench.old) (wire_view LpcKind bench.new) (K.written sink.old) (K.written sink.new) }
+    ensures sink_fault { result ≡ Err Exit.SinkFault → Rose (K.faults sink.old) (K.faults sink.new) }
+    ensures later { K.faults sink.old ≤ K.faults sink.new }
+{
+    match bench.reserve(2) {
+        Ok(()) => {}
+        Err(_) => return Err(Exit::NoMemory),
+    }
+    bench.mark(number);
+    bench.world(happened);
+    match put_all(sink, b"ok\n") {
+        Ok(()) => Ok(()),
+        Err(Failed) => Err(Exit::SinkFault),
     }
 }

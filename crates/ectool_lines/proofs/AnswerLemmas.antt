@@ -6,10 +6,10 @@ use Rattle.ec_types.specs.LittleEndian.{u16_at}
 use Rattle.ec_types.specs.declared.bus.BusKind.TheVariants.{Lpc}
 use Rattle.ec_model.specs.declared.event.Entry.{Entry}
 use Rattle.ec_model.specs.Packet.{request_packet, response_packet}
-use Rattle.ec_model.specs.Bus.{OnLpc, low_status}
+use Rattle.ec_model.specs.Bus.{BusState, OnLpc, fresh_bus, low_status}
 use Rattle.ec_model.specs.HostCalls.{HostCall, Did, Waited, on_after}
 use Rattle.ec_model.specs.Heard.{Reply}
-use Rattle.ec_model.specs.Table.{Table, Awake, On, Core, Valid, core_of, table_of}
+use Rattle.ec_model.specs.Table.{Table, Awake, Power, Off, On, Core, Valid, is_on, core_of, table_of}
 use Rattle.ec_model.specs.Answer.{Outcome, Answered, Restarts}
 use Rattle.ec_model.specs.Handle.{handled}
 use Rattle.ec_model.specs.Run.{IsRun}
@@ -27,30 +27,22 @@ use Rattle.ectool_lines.specs.Tools.{IsInRange}
 use Rattle.ectool_lines.specs.Requests.{Asked, packet_of, first_of, count_of, command_of, commands_of}
 use Rattle.ectool_lines.specs.Texts.{LineEnd, Succeeded, Stopped}
 use Rattle.ectool_lines.specs.Asking.{AllSucceed, AsksEach, Hears}
-use Rattle.ectool_lines.specs.Answering.{Answers}
+use Rattle.ectool_lines.specs.Answering.{IsAnswered, IsUnanswered, AnswersBy, Answers}
 use Rattle.ectool_lines.proofs.SendLemmas.{command-short, command-plain}
 use Rattle.ectool_lines.proofs.WantLemmas.{HasWanted, command-wanted}
 
--- a controller that is on, with this core, whose bus is LPC and shows that nothing is there
-pub record Ready (core : Core) (table : Table) : Type 0 where
+-- a controller on LPC that is on or off, whose bus shows that nothing is there where it is on
+pub record Ready (on : Bool) (table : Table) : Type 0 where
   pub valid : Valid table
-  pub awake : Awake
-  pub on : table.power ≡ On awake
-  pub core_is : core_of table awake ≡ core
-  pub idle : ShowsIdle 0 awake.bus
+  pub kind : table.kind ≡ Lpc
+  pub on_is : is_on table.power ≡ on
+  pub idle : (awake : Awake) → table.power ≡ On awake → ShowsIdle 0 awake.bus
 
 -- a command that fits into a packet on LPC, is no COLD, and whose success has as many bytes as are wanted
 pub record IsProper (asked : Asked) : Type 0 where
   pub plain : IsPlain (packet_of asked)
   pub short : length (packet_of asked) ≤ 256
   pub wanted : (core : Core) → HasWanted asked.want (handled core 256 (packet_of asked))
-
--- a command that was handled and answered, and a controller that is ready again
-pub record IsAnswered (core : Core) (asked : Asked) (entries : List Entry) (ending : Ending) (after : Bool) (last : Table) : Type 0 where
-  pub new : Core
-  pub answers : Answers core asked entries ending new
-  pub ready : Ready new last
-  pub on : after ≡ true
 
 -- neither of two lists of entries is disturbed
 pub calm-both : (first second : List Entry) → IsUndisturbed (first ++ second) → IsUndisturbed first × IsUndisturbed second
@@ -88,78 +80,108 @@ heard-said want status body small wanted =
     let read = status-read status body small in
     rw read (said-by status body (status == 0) (length body == want) (λ success. eq-true (length body) want (wanted (eq-of-test status 0 success))))
 
+-- the bus of a controller that is on, and another one where it is off
+abbrev bus-in : BusState → Power → BusState
+bus-in other Off = other
+bus-in other (On awake) = awake.bus
+
 -- a controller whose bus shows that nothing is there
 ready-at : (core : Core) (window : List ℕ) (outcome : ℕ) → Valid (table_of core (OnLpc (record { window = window; status = 0; outcome = outcome }))) →
-    Ready core (table_of core (OnLpc (record { window = window; status = 0; outcome = outcome })))
+    Ready true (table_of core (OnLpc (record { window = window; status = 0; outcome = outcome })))
 ready-at core window outcome valid =
-    record {
-      valid = valid;
-      awake = record { live = core.live; nonce = core.nonce; bus = OnLpc (record { window = window; status = 0; outcome = outcome }) };
-      on = refl;
-      core_is = refl;
-      idle = (refl, refl);
-    }
+    record { valid = valid; kind = refl; on_is = refl; idle = λ awake same. idle-on core window outcome awake same }
+  where
+    idle-on : (core : Core) (window : List ℕ) (outcome : ℕ) (awake : Awake) → On (record { live = core.live; nonce = core.nonce; bus = OnLpc (record { window = window; status = 0; outcome = outcome }) }) ≡ On awake → ShowsIdle 0 awake.bus
+    idle-on core window outcome awake same =
+      let bus : OnLpc (record { window = window; status = 0; outcome = outcome }) ≡ awake.bus = ap (bus-in (fresh_bus Lpc)) same in
+      subst (λ (b : BusState). ShowsIdle 0 b) bus (refl, refl)
+
+-- a command that was answered by a controller that is on
+pub record IsHeard (table : Table) (asked : Asked) (entries : List Entry) (ending : Ending) (after : Bool) (last : Table) : Type 0 where
+  pub answers : Answers table asked entries ending last
+  pub ready : Ready after last
+
+-- the same by the state that the table has
+answers-on : (table last : Table) (awake : Awake) (asked : Asked) (entries : List Entry) (ending : Ending) → table.power ≡ On awake → IsAnswered table awake asked entries ending last → Answers table asked entries ending last
+answers-on table last awake asked entries ending on answered = subst (λ (power : Power). AnswersBy power table asked entries ending last) (sym on) answered
+
+answers-off : (table last : Table) (asked : Asked) (entries : List Entry) (ending : Ending) → table.power ≡ Off → IsUnanswered table entries ending last → Answers table asked entries ending last
+answers-off table last asked entries ending off unanswered = subst (λ (power : Power). AnswersBy power table asked entries ending last) (sym off) unanswered
 
 -- a command that was handled
-answered-by : (core : Core) (table last : Table) (asked : Asked) (entries : List Entry) (ending : Ending) (after : Bool) (outcome : Outcome) → handled core 256 (packet_of asked) ≡ outcome → IsAnswer outcome → HasWanted asked.want outcome →
-    Ready core table → IsProper asked → Hears Lpc true asked entries ending after → IsRun table entries last → IsUndisturbed entries → IsAnswered core asked entries ending after last
-answered-by core table last asked entries ending after Restarts same answer wanted ready proper hears run calm = absurd answer
-answered-by core table last asked entries ending after (Answered new status body) same answer wanted ready proper hears run calm =
+answered-by : (table last : Table) (awake : Awake) (asked : Asked) (entries : List Entry) (ending : Ending) (after : Bool) (outcome : Outcome) → table.power ≡ On awake → handled (core_of table awake) 256 (packet_of asked) ≡ outcome → IsAnswer outcome → HasWanted asked.want outcome →
+    Ready true table → IsProper asked → Hears Lpc true asked entries ending after → IsRun table entries last → IsUndisturbed entries → IsHeard table asked entries ending after last
+answered-by table last awake asked entries ending after Restarts power same answer wanted ready proper hears run calm = absurd answer
+answered-by table last awake asked entries ending after (Answered new status body) power same answer wanted ready proper hears run calm =
     let sent = hears.once in
-    let handled_is : handled (core_of table ready.awake) 256 (packet_of asked) ≡ Answered new status body = ap (λ (c : Core). handled c 256 (packet_of asked)) ready.core_is ∙ same in
     let exchange : IsExchange 0 (packet_of asked) (response_packet status body) new entries sent.heard last =
-    exchange-run table ready.awake 0 (packet_of asked) entries sent.heard last new status body ready.valid ready.on ready.idle proper.plain proper.short sent.sent run calm hears.steps handled_is in
+    exchange-run table awake 0 (packet_of asked) entries sent.heard last new status body ready.valid power (ready.idle awake power) proper.plain proper.short sent.sent run calm hears.steps same in
     let left = exchange.exchanges in
     let on : on_after entries true ≡ true = ap (λ (e : List Entry). on_after e true) exchange.entries ∙ quiet-on (lpc_exchange 0 (packet_of asked) (response_packet status body)) true in
     let heard : ended (on_after entries true) (heard_as asked.want sent.heard) ≡ Said status body =
     ap (λ (o : Bool). ended o (heard_as asked.want sent.heard)) on ∙ ap (heard_as asked.want) left.heard_is ∙ heard-said asked.want status body wanted.0 wanted.1 in
+    let bus : BusState = OnLpc (record { window = left.window; status = 0; outcome = low_status (response_packet status body) }) in
     record {
-      new = new;
-      answers = record { status = status; body = body; handled_is = same; entries_are = exchange.entries; ending_is = sent.ending_is ∙ heard };
-      ready = subst (λ (t : Table). Ready new t) (sym left.leaves) (ready-at new left.window (low_status (response_packet status body)) (subst Valid left.leaves (run-valid table entries last ready.valid run)));
-      on = hears.on_is ∙ on;
+      answers = answers-on table last awake asked entries ending power (record {
+        after = new;
+        status = status;
+        body = body;
+        bus = bus;
+        handled_is = same;
+        entries_are = exchange.entries;
+        ending_is = sent.ending_is ∙ heard;
+        new_is = left.leaves;
+        idle = (refl, refl);
+      });
+      ready = subst (λ (o : Bool). Ready o last) (sym (hears.on_is ∙ on))
+          (subst (λ (t : Table). Ready true t) (sym left.leaves) (ready-at new left.window (low_status (response_packet status body)) (subst Valid left.leaves (run-valid table entries last ready.valid run))));
     }
 
--- one command
-answered : (core : Core) (table last : Table) (asked : Asked) (entries : List Entry) (ending : Ending) (after : Bool) → Ready core table → IsProper asked → Hears Lpc true asked entries ending after → IsRun table entries last → IsUndisturbed entries →
-    IsAnswered core asked entries ending after last
-answered core table last asked entries ending after ready proper hears run calm =
-    answered-by core table last asked entries ending after (handled core 256 (packet_of asked)) refl (plain-answered (packet_of asked) core 256 proper.plain) (proper.wanted core) ready proper hears run calm
+-- one command, by the state of the controller
+heard-by : (power : Power) (on : Bool) (table last : Table) (asked : Asked) (entries : List Entry) (ending : Ending) (after : Bool) → table.power ≡ power → is_on power ≡ on → Ready on table → IsProper asked → Hears Lpc on asked entries ending after → IsRun table entries last → IsUndisturbed entries →
+    IsHeard table asked entries ending after last
+heard-by (On awake) true table last asked entries ending after power on ready proper hears run calm =
+    answered-by table last awake asked entries ending after (handled (core_of table awake) 256 (packet_of asked)) power refl (plain-answered (packet_of asked) (core_of table awake) 256 proper.plain) (proper.wanted (core_of table awake)) ready proper hears run calm
+heard-by Off false table last asked entries ending after power off ready proper hears run calm =
+    let unsent = hears.once in
+    let same : last ≡ table = subst (λ (e : List Entry). IsRun table e last) unsent.none run in
+    let still : after ≡ false = hears.on_is ∙ ap (λ (e : List Entry). on_after e false) unsent.none in
+    record {
+      answers = answers-off table last asked entries ending power (record { none = unsent.none; ending_is = unsent.ending_is; same = same });
+      ready = subst (λ (o : Bool). Ready o last) (sym still) (subst (λ (t : Table). Ready false t) (sym same) ready);
+    }
+heard-by (On awake) false table last asked entries ending after power on ready proper hears run calm = cc
+heard-by Off true table last asked entries ending after power off ready proper hears run calm = cc
+
+heard : (on : Bool) (table last : Table) (asked : Asked) (entries : List Entry) (ending : Ending) (after : Bool) → Ready on table → IsProper asked → Hears Lpc on asked entries ending after → IsRun table entries last → IsUndisturbed entries → IsHeard table asked entries ending after last
+heard on table last asked entries ending after ready proper hears run calm = heard-by table.power on table last asked entries ending after refl ready.on_is ready proper hears run calm
 
 -- each of some commands is proper
 abbrev pub AreProper : List Asked → Type 0
 AreProper [] = Unit {0}
 AreProper (asked ∷ more) = IsProper asked × AreProper more
 
--- some commands, each of which was handled and answered with success
-pub record AllAnswered (core : Core) (commands : List Asked) (entries : List Entry) (bodies : List (List ℕ)) (after : Bool) (last : Table) : Type 0 where
-  pub new : Core
-  pub succeeded : AllSucceed Answers core commands entries bodies new
-  pub ready : Ready new last
-  pub on : after ≡ true
+-- some commands, each of which was answered with success
+record AllAnswered (table : Table) (commands : List Asked) (entries : List Entry) (bodies : List (List ℕ)) (after : Bool) (last : Table) : Type 0 where
+  pub succeeded : AllSucceed Answers table commands entries bodies last
+  pub ready : Ready after last
 
--- the state behind a command that was on
-on-at : (asked : Asked) (commands : List Asked) (rest : List Entry) (others : List (List ℕ)) (middle after : Bool) → middle ≡ true → AllSucceed (Hears Lpc) middle commands rest others after → AllSucceed (Hears Lpc) true commands rest others after
-on-at asked commands rest others middle after on more = subst (λ (o : Bool). AllSucceed (Hears Lpc) o commands rest others after) on more
-
-all-answered : (core : Core) (table last : Table) (commands : List Asked) (entries : List Entry) (bodies : List (List ℕ)) (after : Bool) → Ready core table → AreProper commands → AllSucceed (Hears Lpc) true commands entries bodies after → IsRun table entries last → IsUndisturbed entries →
-    AllAnswered core commands entries bodies after last
-all-answered core table last [] entries bodies after ready proper (none, no_body, on) run calm =
+all-answered : (on : Bool) (table last : Table) (commands : List Asked) (entries : List Entry) (bodies : List (List ℕ)) (after : Bool) → Ready on table → AreProper commands → AllSucceed (Hears Lpc) on commands entries bodies after → IsRun table entries last → IsUndisturbed entries →
+    AllAnswered table commands entries bodies after last
+all-answered on table last [] entries bodies after ready proper (none, no_body, still) run calm =
     let same : last ≡ table = subst (λ (e : List Entry). IsRun table e last) none run in
-    record { new = core; succeeded = (none, no_body, refl); ready = subst (λ (t : Table). Ready core t) (sym same) ready; on = on }
-all-answered core table last (asked ∷ commands) entries bodies after ready proper (first, rest, body, others, middle, entries_are, bodies_are, hears, more) run calm =
+    record { succeeded = (none, no_body, same); ready = subst (λ (o : Bool). Ready o last) (sym still) (subst (λ (t : Table). Ready on t) (sym same) ready) }
+all-answered on table last (asked ∷ commands) entries bodies after ready proper (first, rest, body, others, middle, entries_are, bodies_are, hears, more) run calm =
     let split = run-split table last first rest (subst (λ (e : List Entry). IsRun table e last) entries_are run) in
     let calms = calm-both first rest (subst (λ (e : List Entry). IsUndisturbed e) entries_are calm) in
-    let here = answered core table split.0 asked first (Said 0 body) middle ready proper.0 hears split.1 calms.0 in
-    let behind = all-answered here.new split.0 last commands rest others after here.ready proper.1 (on-at asked commands rest others middle after here.on more) split.2 calms.1 in
-    record { new = behind.new; succeeded = (first, rest, body, others, here.new, entries_are, bodies_are, here.answers, behind.succeeded); ready = behind.ready; on = behind.on }
+    let here = heard on table split.0 asked first (Said 0 body) middle ready proper.0 hears split.1 calms.0 in
+    let behind = all-answered middle split.0 last commands rest others after here.ready proper.1 more split.2 calms.1 in
+    record { succeeded = (first, rest, body, others, split.0, entries_are, bodies_are, here.answers, behind.succeeded); ready = behind.ready }
 
--- the commands of a line, each of which was handled and answered
-pub record EachAnswered (core : Core) (commands : List Asked) (entries : List Entry) (end : LineEnd) (after : Bool) (last : Table) : Type 0 where
-  pub new : Core
-  pub asks : AsksEach Answers core commands entries end new
-  pub ready : Ready new last
-  pub on : after ≡ true
+-- the commands of a line, each of which was answered, or met a controller that is off
+pub record EachAnswered (table : Table) (commands : List Asked) (entries : List Entry) (end : LineEnd) (after : Bool) (last : Table) : Type 0 where
+  pub asks : AsksEach Answers table commands entries end last
+  pub ready : Ready after last
 
 -- the proper ones before a command, and itself
 proper-split : (before : List Asked) (asked : Asked) (after : List Asked) → AreProper (before ++ asked ∷ after) → AreProper before × IsProper asked
@@ -168,20 +190,18 @@ proper-split (first ∷ before) asked after proper =
     let rest = proper-split before asked after proper.1 in
     ((proper.0, rest.0), rest.1)
 
-pub each-answered : (core : Core) (table last : Table) (commands : List Asked) (entries : List Entry) (end : LineEnd) (after : Bool) → Ready core table → AreProper commands → AsksEach (Hears Lpc) true commands entries end after → IsRun table entries last → IsUndisturbed entries →
-    EachAnswered core commands entries end after last
-each-answered core table last commands entries (Succeeded bodies) after ready proper asks run calm =
-    let all = all-answered core table last commands entries bodies after ready proper asks run calm in
-    record { new = all.new; asks = all.succeeded; ready = all.ready; on = all.on }
-each-answered core table last commands entries (Stopped ending) after ready proper stops run calm =
+pub each-answered : (on : Bool) (table last : Table) (commands : List Asked) (entries : List Entry) (end : LineEnd) (after : Bool) → Ready on table → AreProper commands → AsksEach (Hears Lpc) on commands entries end after → IsRun table entries last → IsUndisturbed entries →
+    EachAnswered table commands entries end after last
+each-answered on table last commands entries (Succeeded bodies) after ready proper asks run calm =
+    let all = all-answered on table last commands entries bodies after ready proper asks run calm in
+    record { asks = all.succeeded; ready = all.ready }
+each-answered on table last commands entries (Stopped ending) after ready proper stops run calm =
     let split = run-split table last stops.first stops.last (subst (λ (e : List Entry). IsRun table e last) stops.entries_are run) in
     let calms = calm-both stops.first stops.last (subst (λ (e : List Entry). IsUndisturbed e) stops.entries_are calm) in
     let propers = proper-split stops.before stops.asked stops.after (subst AreProper stops.commands_are proper) in
-    let front = all-answered core table split.0 stops.before stops.first stops.bodies stops.middle ready propers.0 stops.succeeded split.1 calms.0 in
-    let hears : Hears Lpc true stops.asked stops.last ending after = subst (λ (o : Bool). Hears Lpc o stops.asked stops.last ending after) front.on stops.asks_last in
-    let here = answered front.new split.0 last stops.asked stops.last ending after front.ready propers.1 hears split.2 calms.1 in
+    let front = all-answered on table split.0 stops.before stops.first stops.bodies stops.middle ready propers.0 stops.succeeded split.1 calms.0 in
+    let here = heard stops.middle split.0 last stops.asked stops.last ending after front.ready propers.1 stops.asks_last split.2 calms.1 in
     record {
-      new = here.new;
       asks = record {
         before = stops.before;
         asked = stops.asked;
@@ -189,7 +209,7 @@ each-answered core table last commands entries (Stopped ending) after ready prop
         first = stops.first;
         last = stops.last;
         bodies = stops.bodies;
-        middle = front.new;
+        middle = split.0;
         commands_are = stops.commands_are;
         entries_are = stops.entries_are;
         succeeded = front.succeeded;
@@ -197,7 +217,6 @@ each-answered core table last commands entries (Stopped ending) after ready prop
         refused = stops.refused;
       };
       ready = here.ready;
-      on = here.on;
     }
 
 -- a short body makes a short packet

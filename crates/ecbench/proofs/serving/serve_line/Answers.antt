@@ -1,0 +1,27 @@
+use Rattle.std.proofs.Common.{◌≡◌, ap, sym, ◌∙◌, Ok}
+use Rattle.ec_model.specs.declared.event.Event.TheVariants as event
+use Rattle.ec_model.specs.declared.event.WorldEvent.TheVariants as world
+use Rattle.script_lines.specs.declared.line.Line.{Line}
+use Rattle.script_lines.specs.declared.line.Line.TheVariants as line
+use Rattle.script_lines.specs.Lines.{line_of}
+use Rattle.ecbench.proofs.Adding.{event-serves}
+use Rattle.ecbench.proofs.EventLemmas.{deed-read}
+use Rattle.ecbench.proofs.serving.serve_line.Goals as goal
+
+pub returns-in-Ok-Pin-clause-serves : goal.returns-in-Ok-Pin-clause-serves
+returns-in-Ok-Pin-clause-serves g c =
+    let read = line.Pin c.in-Ok-Pin.on in
+    let is : line_of c.args.line.now ≡ Ok read = sym c.parse.ensures ∙ c.in-Ok-Pin.is ∙ ap (λ (found : Line). Ok found) c.in-Ok-Pin.field-0-is in
+    event-serves c.serve_event.result c.args.number c.args.line.now (world.Pin c.in-Ok-Pin.on) (event.Pin c.in-Ok-Pin.on) _ _ _ _ (deed-read c.args.line.now read is) (λ other same. same) c.serve_event.ensures.serves
+
+pub returns-in-Ok-Power-clause-serves : goal.returns-in-Ok-Power-clause-serves
+returns-in-Ok-Power-clause-serves g c =
+    let read = line.Power c.in-Ok-Power.on in
+    let is : line_of c.args.line.now ≡ Ok read = sym c.parse.ensures ∙ c.in-Ok-Power.is ∙ ap (λ (found : Line). Ok found) c.in-Ok-Power.field-0-is in
+    event-serves c.serve_event-in-Ok-Power.result c.args.number c.args.line.now (world.Power c.in-Ok-Power.on) (event.Power c.in-Ok-Power.on) _ _ _ _ (deed-read c.args.line.now read is) (λ other same. same) c.serve_event-in-Ok-Power.ensures.serves
+
+pub returns-in-Ok-Reset-clause-serves : goal.returns-in-Ok-Reset-clause-serves
+returns-in-Ok-Reset-clause-serves g c =
+    let read = line.Reset c.in-Ok-Reset.cause in
+    let is : line_of c.args.line.now ≡ Ok read = sym c.parse.ensures ∙ c.in-Ok-Reset.is ∙ ap (λ (found : Line). Ok found) c.in-Ok-Reset.field-0-is in
+    event-serves c.serve_event-in-Ok-Reset.result c.args.number c.args.line.now (world.Reset c.in-Ok-Reset.cause) (event.Reset c.in-Ok-Reset.cause) _ _ _ _ (deed-read c.args.line.now read is) (λ other same. same) c.serve_event-in-Ok-Reset.ensures.serves
