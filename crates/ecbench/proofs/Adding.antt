@@ -1,5 +1,5 @@
 -- Entries that a line adds.
-use Rattle.std.proofs.Common.{◌≡◌, refl, sym, ap, ◌∙◌, subst, ℕ, Bool, true, false, ◌||◌, List, [], ◌∷◌, ◌++◌}
+use Rattle.std.proofs.Common.{◌≡◌, refl, ◌∙◌, subst, ℕ, Bool, true, false, ◌||◌, List, [], ◌∷◌, ◌++◌}
 use Rattle.std.specs.List.{list_any}
 use Rattle.ec_types.specs.Tables.{packet_limit}
 use Rattle.ec_types.specs.declared.bus.BusKind.{BusKind}
@@ -8,10 +8,9 @@ use Rattle.ec_model.specs.declared.event.Entry.{Entry}
 use Rattle.ec_model.specs.declared.event.Entry.TheVariants.{Mark}
 use Rattle.ec_model.specs.Upset.{is_world, is_changed}
 use Rattle.ec_wire.specs.Calls.{WireView, Grows, with_spare}
-use Rattle.bench_wire.specs.Adding.{Adds, Extends}
+use Rattle.bench_wire.specs.Adding.{Extends}
 use Rattle.bench_wire.proofs.Extending.{extends-then, extends-grows, extends-nil}
 use Rattle.ectool_lines.specs.Requests.{commands_of}
-use Rattle.ectool_lines.specs.Texts.{LineEnd}
 use Rattle.ectool_lines.specs.Asking.{AsksEach, Hears}
 use Rattle.ecbench.specs.Lines.{CarriesOut}
 use Rattle.ecbench.specs.Serving.{Behaves, MarksLine, CarriesLine}

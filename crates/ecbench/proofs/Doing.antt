@@ -9,8 +9,7 @@ use Rattle.ecbench.specs.Lines.{IsDone, AreDone}
 pub done-more : {State : Type 0} (asks : State → Asked → List Entry → Ending → State → Type 0) (number : ℕ) (old : State) (lines : List (List ℕ)) (entries : List Entry) (text : List ℕ) (middle : State) (at : ℕ) (line : List ℕ) (last : List Entry) (said : List ℕ) (new : State) →
     at ≡ number + length lines → AreDone asks number old lines entries text middle → IsDone asks at middle line last said new → AreDone asks number old (lines ++ line ∷ []) (entries ++ last) (text ++ said) new
 done-more {State} asks number old [] entries text middle at line last said new same before here =
-    let number_is : at ≡ number = omega (arith, same) in
-    (
+    let number_is : at ≡ number = omega (arith, same) in (
       last,
       [],
       said,
@@ -21,15 +20,14 @@ done-more {State} asks number old [] entries text middle at line last said new s
       subst (λ (n : ℕ). IsDone asks n old line last said new) number_is (subst (λ (state : State). IsDone asks at state line last said new) before.2 here),
       (refl, refl, refl),
     )
-done-more asks number old (first ∷ lines) entries text middle at line last said new same (own, rest, words, more, between, entries_are, text_is, done, others) here =
-    (
-      own,
-      rest ++ last,
-      words,
-      more ++ said,
-      between,
-      ap (λ (front : List Entry). front ++ last) entries_are ∙ append_assoc own rest last,
-      ap (λ (front : List ℕ). front ++ said) text_is ∙ append_assoc words more said,
-      done,
-      done-more asks (number + 1) between lines rest more middle at line last said new (omega (arith, same)) others here,
-    )
+done-more asks number old (first ∷ lines) entries text middle at line last said new same (own, rest, words, more, between, entries_are, text_is, done, others) here = (
+  own,
+  rest ++ last,
+  words,
+  more ++ said,
+  between,
+  ap (λ (front : List Entry). front ++ last) entries_are ∙ append_assoc own rest last,
+  ap (λ (front : List ℕ). front ++ said) text_is ∙ append_assoc words more said,
+  done,
+  done-more asks (number + 1) between lines rest more middle at line last said new (omega (arith, same)) others here,
+)

@@ -1,5 +1,5 @@
 -- A script behind the power-on.
-use Rattle.std.proofs.Common.{◌≡◌, refl, sym, ap, ◌∙◌, subst, ℕ, ◌+◌, ◌≤◌, Bool, true, false, List, [], ◌∷◌, ◌++◌, length, ◌⊎◌, inl, inr, Option, Some, None, arith}
+use Rattle.std.proofs.Common.{◌≡◌, refl, sym, ap, ◌∙◌, subst, ℕ, ◌≤◌, Bool, true, false, List, [], ◌∷◌, ◌++◌, length, ◌⊎◌, inl, inr, Option, Some, None, arith}
 use Rattle.std.specs.Prelude.{option_map, IfSome, count_by}
 use Rattle.ec_types.specs.declared.bus.BusKind.TheVariants.{Lpc}
 use Rattle.ec_types.specs.declared.reset.ResetCause.TheVariants.{PowerOn}
@@ -10,7 +10,7 @@ use Rattle.ec_model.specs.declared.event.Hurt.{Hurt}
 use Rattle.ec_model.specs.declared.event.Hurt.TheVariants.{Whole, Failed, Cut}
 use Rattle.ec_model.specs.Boot.{booted, booted_live, booted_table}
 use Rattle.ec_model.specs.Bus.{fresh_bus}
-use Rattle.ec_model.specs.Table.{Table, Core, Awake, Valid, off_table}
+use Rattle.ec_model.specs.Table.{Table, Valid, off_table}
 use Rattle.ec_model.specs.Run.{IsRun}
 use Rattle.ec_model.specs.Work.{After}
 use Rattle.ec_model.specs.Step.{IsStep}
@@ -29,7 +29,7 @@ use Rattle.ecbench.specs.declared.run.Exit.{Exit}
 use Rattle.ecbench.specs.declared.run.Exit.TheVariants.{Done, BadWords, BadFlash, BadLine, SourceFault, SinkFault, NoMemory, ScriptTooLong}
 use Rattle.ecbench.specs.Scripts.{PlaysUpTo}
 use Rattle.ecbench.specs.Endings.{power_on, IsStarted, Begins, NothingHappened, Ends, StartsOn, StartsBooted}
-use Rattle.ecbench.specs.Serving.{Behaves, DoesNothing, PowersOn, PowersAndServes, Serves, Drives}
+use Rattle.ecbench.specs.Serving.{DoesNothing, PowersAndServes, Drives}
 use Rattle.ecbench.proofs.Undisturbed.{upto-answered}
 
 -- nothing was done, or power came and a script was served
@@ -55,12 +55,13 @@ grew-spare spare old new added e = record { entries = e.entries; on = e.on; bus 
 -- all that a run added
 pub drives-grew : (exit : Exit) (old new : WireView) (left rest before after : Option (List ℕ)) → Drives exit old new left rest before after → Grew old new
 drives-grew exit old new left rest before after drives =
-    elim (drives-either exit old new left rest before after drives)
-    [ inl nothing ↦ record { added = []; extends = subst (λ (view : WireView). Extends [] old view) (sym nothing.same) (extends-nil old.spare old) }
-    | inr served ↦ record {
-      added = power_on served.powers.boot ∷ [] ++ served.serves.own;
-      extends = extends-then (power_on served.powers.boot ∷ []) served.serves.own old served.powered new (grew-spare served.spare old served.powered (power_on served.powers.boot ∷ []) served.powers.adds.extends) served.serves.behaves.extends;
-    } ]
+    elim (drives-either exit old new left rest before after drives) [
+      | inl nothing ↦ record { added = []; extends = subst (λ (view : WireView). Extends [] old view) (sym nothing.same) (extends-nil old.spare old) }
+      | inr served ↦ record {
+        added = power_on served.powers.boot ∷ [] ++ served.serves.own;
+        extends = extends-then (power_on served.powers.boot ∷ []) served.serves.own old served.powered new (grew-spare served.spare old served.powered (power_on served.powers.boot ∷ []) served.powers.adds.extends) served.serves.behaves.extends;
+      }
+    ]
 
 -- the entries of a script behind the power-on
 begun-entries : (exit : Exit) (old new : WireView) (left rest before after : Option (List ℕ)) → old.entries ≡ [] → (served : PowersAndServes exit old new left rest before after) → new.entries ≡ power_on served.powers.boot ∷ served.serves.own

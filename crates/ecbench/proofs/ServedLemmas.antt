@@ -1,5 +1,5 @@
 -- A script, line by line: what was done so far, and what each exit says.
-use Rattle.std.proofs.Common.{◌≡◌, refl, sym, ap, ◌∙◌, subst, ℕ, ◌+◌, ◌≤◌, ◌<◌, Bool, true, false, nat_le, nat_lt, if◌then◌else◌, List, [], ◌∷◌, ◌++◌, length, length-append, map, take, append_assoc, append-nil, ◌⊎◌, inl, inr, Option, Some, None, Result, Ok, Err, arith}
+use Rattle.std.proofs.Common.{◌≡◌, refl, sym, ap, ◌∙◌, subst, ℕ, ◌+◌, ◌≤◌, ◌<◌, Bool, true, false, nat_lt, if◌then◌else◌, List, [], ◌∷◌, ◌++◌, length, length-append, map, take, append_assoc, append-nil, ◌⊎◌, inl, inr, Option, Some, None, Result, Ok, Err, arith}
 use Rattle.std.specs.Prelude.{IfSome}
 use Rattle.std.proofs.lemmas.Bool.{le-leb, lt-ltb}
 use Rattle.std.proofs.lemmas.List.{length-map}
@@ -13,24 +13,23 @@ use Rattle.ec_wire.specs.Calls.{WireView}
 use Rattle.line_reader.specs.declared.reader.Next.{Next}
 use Rattle.line_reader.specs.declared.reader.Next.TheVariants.{Line, Last, End, TooLong, Full}
 use Rattle.line_reader.specs.Bytes.{NoneLeft}
-use Rattle.line_reader.specs.Finding.{ReaderView, IsLine as FoundLine, IsLast, IsEnd, IsOver, IsTooLong, IsFull, IsFailed, Finds}
-use Rattle.line_reader.specs.Lines.{most_bytes, longest_line, without_return, lines_of, lines_within, ended_lines, script_lines}
+use Rattle.line_reader.specs.Finding.{ReaderView, IsLast, IsEnd, IsOver, IsTooLong, Finds}
+use Rattle.line_reader.specs.Lines.{most_bytes, longest_line, without_return, lines_of, lines_within, script_lines}
 use Rattle.line_reader.specs.Taking.{Takes}
 use Rattle.line_reader.proofs.Takings.{Takes-then}
 use Rattle.line_reader.proofs.Splitting.{Splits, splits-nothing, line-splits, line-read, line-lines, last-lines, end-lines, long-lines, full-lines, failed-lines}
 use Rattle.std.specs.Prelude.{codes, nat_eq, is_ok, ◌&&◌, ◌||◌, ◌==◌}
 use Rattle.std.specs.List.{list_any, starts_with}
 use Rattle.script_words.specs.Words.{words_of}
-use Rattle.script_words.specs.Lines.{checked, is_unprintable, does_nothing}
+use Rattle.script_words.specs.Lines.{checked, is_unprintable}
 use Rattle.script_words.specs.Forms.{◌>>=◌}
-use Rattle.ectool_lines.specs.Running.{Appends, AppendsFront}
+use Rattle.ectool_lines.specs.Running.{Appends}
 use Rattle.ectool_lines.specs.Asking.{Hears}
-use Rattle.ectool_lines.specs.Tools.{tool_of, tool_by}
-use Rattle.ectool_lines.specs.declared.tool.Tool.{Tool}
+use Rattle.ectool_lines.specs.Tools.{tool_by}
 use Rattle.ecbench.specs.declared.run.Exit.{Exit}
 use Rattle.ecbench.specs.declared.run.Exit.TheVariants.{Done, BadWords, BadFlash, BadLine, SourceFault, SinkFault, NoMemory, ScriptTooLong}
 use Rattle.ecbench.specs.Lines.{CarriesOut, IsDone, WasPassed, WasCarried, AreDone, IsFaulty}
-use Rattle.ecbench.specs.Scripts.{IsScript, IsWhole, IsLong, Plays, IsLine, StopsAtFault, StopsInText, StopsBefore, PlaysUpTo}
+use Rattle.ecbench.specs.Scripts.{IsScript, Plays, IsLine}
 use Rattle.ecbench.specs.Serving.{Behaves, Serves, ServesLine, PassesLine, CarriesLine, MarksLine, exit_at}
 use Rattle.ecbench.proofs.Doing.{done-more}
 use Rattle.ecbench.proofs.Adding.{behaves-nil, behaves-then, marks-behaves, line-adds}
@@ -326,7 +325,7 @@ did-more number opened now new reader line left rest before after printed served
       behaves = behaves-then served.own did.own opened now new served.behaves did.behaves;
       text = served.text ++ did.said;
       done = done-more (Hears Lpc) 1 opened.on (map without_return served.raws) served.own served.text now.on number line did.own did.said new.on
-      (omega (arith, line-number number served.raws served.number_is)) served.done did.done;
+          (omega (arith, line-number number served.raws served.number_is)) served.done did.done;
       printed = appends-then served.text did.said before after printed served.printed did.printed;
     }
 

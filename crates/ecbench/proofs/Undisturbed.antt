@@ -1,6 +1,5 @@
 -- A script where nothing disturbs it: each command is handled and answered.
-use Rattle.std.proofs.Common.{◌≡◌, refl, sym, ap, ◌∙◌, subst, ℕ, ◌+◌, Bool, true, List, [], ◌∷◌, ◌++◌, length, Option}
-use Rattle.ec_types.specs.Tables.{packet_limit}
+use Rattle.std.proofs.Common.{◌≡◌, refl, sym, subst, ℕ, ◌+◌, Bool, true, List, [], ◌∷◌, length, Option}
 use Rattle.ec_types.specs.declared.bus.BusKind.TheVariants.{Lpc}
 use Rattle.ec_model.specs.declared.event.Entry.{Entry}
 use Rattle.ec_model.specs.declared.event.Entry.TheVariants.{Mark}
@@ -9,13 +8,13 @@ use Rattle.ec_model.specs.Run.{IsRun}
 use Rattle.ec_model.specs.Upset.{IsUndisturbed}
 use Rattle.ec_model.proofs.RunLaws.{run-split}
 use Rattle.ectool_lines.specs.Requests.{commands_of}
-use Rattle.ectool_lines.specs.Asking.{Hears, AsksEach}
+use Rattle.ectool_lines.specs.Asking.{Hears}
 use Rattle.ectool_lines.specs.Answering.{Answers}
 use Rattle.ectool_lines.proofs.AnswerLemmas.{Ready, EachAnswered, each-answered, tool-proper, calm-both}
 use Rattle.ecbench.specs.declared.run.Exit.{Exit}
 use Rattle.ecbench.specs.declared.run.Exit.TheVariants.{Done, BadWords, BadFlash, BadLine, SourceFault, SinkFault, NoMemory, ScriptTooLong}
-use Rattle.ecbench.specs.Lines.{CarriesOut, PassesOver, IsDone, WasPassed, WasCarried, AreDone}
-use Rattle.ecbench.specs.Scripts.{Plays, StopsInText, PlaysUpTo}
+use Rattle.ecbench.specs.Lines.{CarriesOut, IsDone, WasPassed, WasCarried, AreDone}
+use Rattle.ecbench.specs.Scripts.{Plays, PlaysUpTo}
 
 -- a line that was carried out by a controller that was ready
 record LineAnswered (number : ℕ) (core : Core) (line : List ℕ) (entries : List Entry) (text : List ℕ) (after : Bool) (last : Table) : Type 0 where
@@ -106,16 +105,15 @@ pub upto-answered : (exit : Exit) (core : Core) (table last : Table) (entries : 
     PlaysUpTo Answers core exit entries left rest before after
 upto-answered Done core table last entries left rest before after ready (script, whole, plays) run calm =
     (script, whole, (plays-answered core table last _ entries before after ready plays run calm).plays)
-upto-answered (BadLine number reason) core table last entries left rest before after ready (script, taken, line, lines, is_script, faulty, stops) run calm =
-    (
-      script,
-      taken,
-      line,
-      lines,
-      is_script,
-      faulty,
-      record { is_line = stops.is_line; number_is = stops.number_is; plays = (plays-answered core table last lines entries before after ready stops.plays run calm).plays },
-    )
+upto-answered (BadLine number reason) core table last entries left rest before after ready (script, taken, line, lines, is_script, faulty, stops) run calm = (
+  script,
+  taken,
+  line,
+  lines,
+  is_script,
+  faulty,
+  record { is_line = stops.is_line; number_is = stops.number_is; plays = (plays-answered core table last lines entries before after ready stops.plays run calm).plays },
+)
 upto-answered SourceFault core table last entries left rest before after ready (taken, takes, plays) run calm =
     (taken, takes, (plays-answered core table last _ entries before after ready plays run calm).plays)
 upto-answered SinkFault core table last entries left rest before after ready (script, taken, line, lines, is_script, is_line, stops) run calm =
@@ -123,8 +121,7 @@ upto-answered SinkFault core table last entries left rest before after ready (sc
     let calms = calm-both stops.first stops.last (subst (λ (e : List Entry). IsUndisturbed e) stops.entries_are calm) in
     let front = plays-answered core table split.0 lines stops.first before stops.between ready stops.plays split.1 calms.0 in
     let carries : CarriesOut (Hears Lpc) (length lines + 1) true line stops.last stops.text stops.new = subst (λ (on : Bool). CarriesOut (Hears Lpc) (length lines + 1) on line stops.last stops.text stops.new) front.on stops.carries in
-    let here = line-answered (length lines + 1) front.plays.new split.0 last line stops.last stops.text stops.new front.ready carries split.2 calms.1 in
-    (
+    let here = line-answered (length lines + 1) front.plays.new split.0 last line stops.last stops.text stops.new front.ready carries split.2 calms.1 in (
       script,
       taken,
       line,

@@ -1,32 +1,26 @@
 -- What each exit of a run says of the words, the flash, the script, the printed bytes and the journal.
-use Rattle.std.specs.Prelude.{◌≡◌, ◌⊎◌, ℕ, Bool, true, false, List, [], ◌∷◌, map, Option, IsTrue, IsFalse}
-use Rattle.ec_types.specs.Tables.{packet_limit}
+use Rattle.std.specs.Prelude.{◌≡◌, ◌⊎◌, ℕ, Bool, true, false, List, [], ◌∷◌, Option, IsTrue, IsFalse}
 use Rattle.ec_types.specs.declared.bus.BusKind.TheVariants.{Lpc}
 use Rattle.ec_types.specs.declared.reset.ResetCause.TheVariants.{PowerOn}
 use Rattle.flash_dev.specs.Told.{Changes}
 use Rattle.flash_dev.specs.Counts.{Rose}
 use Rattle.flash_dev.specs.Device.{DeviceView}
 use Rattle.ec_model.specs.Ranges.{is_flash_size}
-use Rattle.ec_model.specs.Packet.{response_packet}
 use Rattle.ec_model.specs.Boot.{booted}
 use Rattle.ec_model.specs.Table.{Table, Core}
-use Rattle.ec_model.specs.Answer.{Answered}
-use Rattle.ec_model.specs.Handle.{handled}
 use Rattle.ec_model.specs.Run.{IsRun, opening}
 use Rattle.ec_model.specs.declared.event.Entry.{Entry}
 use Rattle.ec_model.specs.declared.event.Entry.TheVariants.{Step}
 use Rattle.ec_model.specs.declared.event.Event.TheVariants.{Power}
 use Rattle.ec_model.specs.declared.event.Hurt.{Hurt}
 use Rattle.ec_model.specs.declared.event.Hurt.TheVariants.{Whole}
-use Rattle.ec_wire.specs.Quiet.{quiet_entry}
-use Rattle.host_runs.specs.Exchange.{lpc_exchange}
-use Rattle.host_transport.specs.Once.{Ending, Said}
-use Rattle.ectool_lines.specs.Requests.{Asked, packet_of}
+use Rattle.host_transport.specs.Once.{Ending}
+use Rattle.ectool_lines.specs.Requests.{Asked}
 use Rattle.ectool_lines.specs.Running.{Appends}
 use Rattle.ectool_lines.specs.Asking.{Hears}
 use Rattle.ectool_lines.specs.Answering.{Answers}
 use Rattle.ecbench.specs.declared.run.Exit.{Exit}
-use Rattle.ecbench.specs.declared.run.Exit.TheVariants.{Done, BadWords, BadFlash, BadLine, SourceFault, SinkFault, NoMemory, ScriptTooLong}
+use Rattle.ecbench.specs.declared.run.Exit.TheVariants.{BadWords, BadFlash, NoMemory}
 use Rattle.ecbench.specs.Words.{are_words}
 use Rattle.ecbench.specs.Scripts.{PlaysUpTo}
 

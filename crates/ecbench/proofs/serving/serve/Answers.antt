@@ -1,20 +1,17 @@
-use Rattle.std.proofs.Common.{◌≡◌, refl, sym, ap, ◌∙◌, subst, ℕ, ◌≤◌, List, Result, Ok, Err, Option, None, arith}
+use Rattle.std.proofs.Common.{◌≡◌, refl, sym, ◌∙◌, subst, ℕ, List, Ok, Err, None, arith}
 use Rattle.ec_types.specs.declared.bus.BusKind.TheVariants.{Lpc as LpcKind}
-use Rattle.flash_dev.specs.declared.device.Failed.{Failed}
 use Rattle.bench_wire.specs.BenchView.{wire_view}
 use Rattle.line_reader.specs.declared.reader.Next.{Next}
-use Rattle.line_reader.specs.declared.reader.Next.TheVariants.{Line, Last, End, TooLong, Full}
+use Rattle.line_reader.specs.declared.reader.Next.TheVariants.{Line, Last}
 use Rattle.line_reader.specs.Finding.{Finds}
-use Rattle.ecbench.specs.declared.run.Exit.{Exit}
 use Rattle.ecbench.specs.Serving.{ServesLine, exit_at}
-use Rattle.ecbench.proofs.ServedLemmas.{Served, served-nothing, served-more, serves-failed, serves-exit, serves-last, serves-stopped, at-any, ended-line}
+use Rattle.ecbench.proofs.ServedLemmas.{served-nothing, served-more, serves-failed, serves-exit, serves-last, serves-stopped, at-any, ended-line}
 use Rattle.line_reader.proofs.Takings.{Takes-nothing}
 use Rattle.ecbench.proofs.serving.serve.Goals as goal
 
 pub loop-number-init : goal.loop-number-init
 loop-number-init g c =
-    let fresh = c.new-reader.ensures in
-    (
+    let fresh = c.new-reader.ensures in (
       served-nothing (wire_view LpcKind c.args.bench.now) (g.S.Source.left c.args.source.now) (g.K.Sink.written c.args.sink.now) c.new-reader.result fresh (Takes-nothing (g.S.Source.left c.args.source.now)),
       rw fresh (omega arith),
       omega arith,
@@ -52,8 +49,7 @@ loop-number-preserved g c =
     let finds : Finds (Ok Line) c.loop-number.reader c.next.new.self (g.S.Source.left c.loop-number.source) (g.S.Source.left c.next.new.source) =
     subst (λ (next : Next). Finds (Ok next) c.loop-number.reader c.next.new.self (g.S.Source.left c.loop-number.source) (g.S.Source.left c.next.new.source)) line c.in-Ok.ensures.finds in
     let served : ServesLine (Ok tt) c.loop-number.number c.next.new.self.line (wire_view LpcKind c.loop-number.bench) (wire_view LpcKind c.serve_line.new.bench) (g.K.Sink.written c.loop-number.sink) (g.K.Sink.written c.serve_line.new.sink) =
-    subst (λ (bytes : List ℕ). ServesLine (Ok tt) c.loop-number.number bytes (wire_view LpcKind c.loop-number.bench) (wire_view LpcKind c.serve_line.new.bench) (g.K.Sink.written c.loop-number.sink) (g.K.Sink.written c.serve_line.new.sink)) c.line.ensures c.in_default-serve_line.ensures.serves in
-    (
+    subst (λ (bytes : List ℕ). ServesLine (Ok tt) c.loop-number.number bytes (wire_view LpcKind c.loop-number.bench) (wire_view LpcKind c.serve_line.new.bench) (g.K.Sink.written c.loop-number.sink) (g.K.Sink.written c.serve_line.new.sink)) c.line.ensures c.in_default-serve_line.ensures.serves in (
       served-more c.loop-number.number _ _ _ _ _ _ _ _ _ _ _ c.loop-number.invariant.0 refl refl finds served,
       c.next.ensures.within.read,
       omega (arith, c.loop-number.invariant.2, c.next.ensures.cause.later),
