@@ -68,8 +68,9 @@ fn plays<R: Abort + AllocGlobal, F: FlashDev + Drop>(
     let mut sink = MemSink::new(rt.alloc(), 9000, fails.1)?;
     let word = Word::new(rt.alloc(), b"flash")?;
     let ended = run(rt.alloc(), &[word], flash, &mut source, &mut sink);
-    assert_eq!(rt; ended.exit, want.0);
-    assert_eq!(rt; sink.bytes(), want.1);
+    let size = script.len();
+    assert_eq!(rt; ended.exit, want.0, "script of {size} bytes");
+    assert_eq!(rt; sink.bytes(), want.1, "script of {size} bytes");
     Ok(ended.journal.len())
 }
 
@@ -111,8 +112,10 @@ fn each_line_prints_its_text(rt: HostRuntime) -> Result<(), Fail> {
     ] {
         let _entries = plays_whole(&rt, script, Exit::Done, text)?;
     }
-    let idle = plays_whole(&rt, b"# nothing\n\n", Exit::Done, b"")?;
-    assert_eq!(rt; idle, 1);
+    for script in [b"".as_slice(), b"# nothing\n\n  ".as_slice()] {
+        let entries = plays_whole(&rt, script, Exit::Done, b"")?;
+        assert_eq!(rt; entries, 1);
+    }
     Ok(())
 }
 
