@@ -1,79 +1,241 @@
+// What no clause says: that memory suffices where there is enough, and the bytes that are printed and sent.
+ghost use Rattle.std.specs.Prelude.{None};
+ghost use Rattle.flash_dev.specs.Told.{untold_is_whole};
+
 use crate::run::{Exit, run};
 use crate::word::Word;
 use bench_io::{MemSink, MemSource};
 use ec_model::{Access, Entry, Event};
 use ec_types::Why;
-use flash_dev::MemFlash;
+use flash_dev::{DevErr, Failed, FlashDev, MemFlash};
 use std::process::Abort;
 use std::test::Fail;
 
-// Runs a script over an erased flash of 64 KiB, where these calls of the source and the sink fail, and looks at the exit,
-// the text and how many entries the journal has.
-fn plays<R: Abort + AllocGlobal>(
+const ERASED: [u8; 65536] = [0xFF; 65536];
+
+const GREETING: &[u8] = b"EC says hello!\n";
+
+/// A flash of 64 KiB that is erased, and loses its power at each program and each erase. It tells no bytes.
+#[derive(Drop)]
+struct Dying {
+    cuts: u64,
+    fetched: u64,
+}
+
+impl FlashDev for Dying {
+    ghost seen = { λ flash. record {
+      held = None;
+      extent = 65536;
+      faults = 0;
+      cuts = flash.cuts;
+      wear = 0;
+      fetched = flash.fetched;
+    } };
+
+    fn size(&self) -> u32 {
+        65536
+    }
+
+    fn read(&mut self, _at: u32, out: &mut [u8]) -> Result<(), Failed> {
+        self.fetched = self.fetched.saturating_add(out.len() as u64);
+        out.fill(0xFF);
+        Ok(())
+    }
+
+    fn program(&mut self, _at: u32, _bytes: &[u8]) -> Result<(), DevErr> {
+        self.cuts = self.cuts.saturating_add(1);
+        Err(DevErr::PowerLost)
+    }
+
+    fn erase(&mut self, _block: u32) -> Result<(), DevErr> {
+        self.cuts = self.cuts.saturating_add(1);
+        Err(DevErr::PowerLost)
+    }
+
+    ghost told_whole = { λ flash bytes same. untold_is_whole 65536 bytes same };
+}
+
+// Runs a script over this flash, where these calls of the source and of the sink fail, and looks at the exit and at the
+// text. Answers how many entries the journal has.
+fn plays<R: Abort + AllocGlobal, F: FlashDev + Drop>(
     rt: &R,
+    flash: F,
     script: &[u8],
     fails: (&[u32], &[u32]),
-    want: (Exit, &[u8], usize),
-) -> Result<(), Fail> {
-    let flash = MemFlash::new(rt.alloc(), &[0xFF; 65536], &[])?;
+    want: (Exit, &[u8]),
+) -> Result<usize, Fail> {
     let mut source = MemSource::new(rt.alloc(), script, fails.0)?;
-    let mut sink = MemSink::new(rt.alloc(), 100, fails.1)?;
+    let mut sink = MemSink::new(rt.alloc(), 9000, fails.1)?;
     let word = Word::new(rt.alloc(), b"flash")?;
     let ended = run(rt.alloc(), &[word], flash, &mut source, &mut sink);
-    assert_eq!(rt; ended.exit, want.0);
-    assert_eq!(rt; sink.bytes(), want.1);
-    assert_eq!(rt; ended.journal.len(), want.2);
-    Ok(())
+    let size = script.len();
+    assert_eq!(rt; ended.exit, want.0, "script of {size} bytes");
+    assert_eq!(rt; sink.bytes(), want.1, "script of {size} bytes");
+    Ok(ended.journal.len())
+}
+
+// The same over an erased flash in memory, where nothing fails.
+fn plays_whole<R: Abort + AllocGlobal>(
+    rt: &R,
+    script: &[u8],
+    exit: Exit,
+    text: &[u8],
+) -> Result<usize, Fail> {
+    let flash = MemFlash::new(rt.alloc(), &ERASED, &[])?;
+    plays(rt, flash, script, (&[], &[]), (exit, text))
 }
 
 #[test]
-fn each_exit_comes_with_ample_memory(rt: HostRuntime) -> Result<(), Fail> {
-    let text = b"EC says hello!\n".as_slice();
-    let none = b"".as_slice();
-    let bad = Exit::BadLine {
-        line: 1,
-        why: Why::Word,
-    };
-    plays(&rt, b"hello\n", (&[], &[]), (Exit::Done, text, 31))?;
-    plays(&rt, b"hello", (&[], &[]), (Exit::Done, text, 31))?;
-    plays(&rt, b"helo\n", (&[], &[]), (bad, none, 1))?;
-    plays(&rt, b"hello\n\n", (&[], &[]), (bad, none, 1))?;
-    plays(&rt, b"", (&[], &[]), (bad, none, 1))?;
-    plays(&rt, b"hello", (&[1], &[]), (Exit::SourceFault, none, 1))?;
-    plays(&rt, b"hello", (&[], &[1]), (Exit::SinkFault, none, 31))?;
-    Ok(())
-}
-
-#[test]
-fn a_flash_of_another_size_is_refused(rt: HostRuntime) -> Result<(), Fail> {
-    let flash = MemFlash::new(rt.alloc(), &[0xFF; 65535], &[])?;
-    let mut source = MemSource::new(rt.alloc(), b"hello", &[])?;
-    let mut sink = MemSink::new(rt.alloc(), 100, &[])?;
-    let word = Word::new(rt.alloc(), b"flash")?;
-    let ended = run(rt.alloc(), &[word], flash, &mut source, &mut sink);
-    assert_eq!(rt; ended.exit, Exit::BadFlash);
-    assert_eq!(rt; ended.journal.len(), 0);
-    assert_eq!(rt; source.taken(), 0);
-    Ok(())
-}
-
-#[test]
-fn other_words_are_refused(rt: HostRuntime) -> Result<(), Fail> {
-    for words in [b"".as_slice(), b"-f".as_slice(), b"--".as_slice()] {
-        let flash = MemFlash::new(rt.alloc(), &[0xFF; 65536], &[])?;
-        let mut source = MemSource::new(rt.alloc(), b"hello", &[])?;
-        let mut sink = MemSink::new(rt.alloc(), 100, &[])?;
-        let word = Word::new(rt.alloc(), words)?;
-        let ended = run(rt.alloc(), &[word], flash, &mut source, &mut sink);
-        assert_eq!(rt; ended.exit, Exit::BadWords);
-        assert_eq!(rt; ended.journal.len(), 0);
+fn each_line_prints_its_text(rt: HostRuntime) -> Result<(), Fail> {
+    for (script, text) in [
+        (b"hello\n".as_slice(), GREETING),
+        (b"hello".as_slice(), GREETING),
+        (b" hello \r\n".as_slice(), GREETING),
+        (b"# hello\n\n  \n#\r\nhello".as_slice(), GREETING),
+        (b"flashread 0x8000 0".as_slice(), b"\n".as_slice()),
+        (
+            b"flashread 0xfffffffc 8".as_slice(),
+            b"EC result 3 (INVALID_PARAM)\n".as_slice(),
+        ),
+        (
+            b"flashwrite 0x8000 f0f0f0f0\nflashwrite 0x8000 3C3C3C3C\nflashread 0x8000 4\n".as_slice(),
+            b"wrote 4 bytes\nwrote 4 bytes\n30303030\n".as_slice(),
+        ),
+        (
+            b"flashwrite 0x0 00000000".as_slice(),
+            b"EC result 4 (ACCESS_DENIED)\n".as_slice(),
+        ),
+        (
+            b"flashwrite 0x8002 00000000".as_slice(),
+            b"EC result 3 (INVALID_PARAM)\n".as_slice(),
+        ),
+    ] {
+        let _entries = plays_whole(&rt, script, Exit::Done, text)?;
+    }
+    for script in [b"".as_slice(), b"# nothing\n\n  ".as_slice()] {
+        let entries = plays_whole(&rt, script, Exit::Done, b"")?;
+        assert_eq!(rt; entries, 1);
     }
     Ok(())
 }
 
 #[test]
+fn a_long_read_is_put_together(rt: HostRuntime) -> Result<(), Fail> {
+    // The second read begins 248 bytes behind the first one.
+    let script = b"flashwrite 0x80f4 0102030405060708\nflashread 0x8000 600".as_slice();
+    let mut text = Vec::new(rt.alloc());
+    text.extend_from_slice(b"wrote 8 bytes\n")?;
+    text.extend_from_slice(&[b'f'; 488])?;
+    text.extend_from_slice(b"0102030405060708")?;
+    text.extend_from_slice(&[b'f'; 696])?;
+    text.push(b'\n')?;
+    let _entries = plays_whole(&rt, script, Exit::Done, text.as_slice())?;
+    Ok(())
+}
+
+#[test]
+fn a_faulty_line_ends_the_script(rt: HostRuntime) -> Result<(), Fail> {
+    for (script, line, why, text) in [
+        (b"hello\nhelo\nhello".as_slice(), 2, Why::Word, GREETING),
+        (b"hello now".as_slice(), 1, Why::Count, b"".as_slice()),
+        (
+            b"\n\nflashread 0 4097\n".as_slice(),
+            3,
+            Why::Number,
+            b"".as_slice(),
+        ),
+        (
+            b"#\nflashwrite 0 012\n".as_slice(),
+            2,
+            Why::Hex,
+            b"".as_slice(),
+        ),
+        (b"hello\n# \t".as_slice(), 2, Why::Ascii, GREETING),
+        ([b'a'; 16_385].as_slice(), 1, Why::TooLong, b"".as_slice()),
+    ] {
+        let _entries = plays_whole(&rt, script, Exit::BadLine { line, why }, text)?;
+    }
+    Ok(())
+}
+
+#[test]
+fn a_script_of_too_many_bytes_ends_behind_its_lines(rt: HostRuntime) -> Result<(), Fail> {
+    let script = vec![in rt.alloc(); b'\n'; 16_777_217]?;
+    let entries = plays_whole(&rt, script.as_slice(), Exit::ScriptTooLong, b"")?;
+    assert_eq!(rt; entries, 1);
+    Ok(())
+}
+
+#[test]
+fn what_fails_is_told(rt: HostRuntime) -> Result<(), Fail> {
+    for (source, sink, exit, text) in [
+        (
+            [1].as_slice(),
+            [].as_slice(),
+            Exit::SourceFault,
+            b"".as_slice(),
+        ),
+        ([2].as_slice(), [].as_slice(), Exit::SourceFault, GREETING),
+        (
+            [].as_slice(),
+            [1].as_slice(),
+            Exit::SinkFault,
+            b"".as_slice(),
+        ),
+        ([].as_slice(), [2].as_slice(), Exit::SinkFault, GREETING),
+    ] {
+        let flash = MemFlash::new(rt.alloc(), &ERASED, &[])?;
+        let _entries = plays(&rt, flash, b"hello\nhello", (source, sink), (exit, text))?;
+    }
+    Ok(())
+}
+
+#[test]
+fn a_failing_flash_is_told_by_the_controller(rt: HostRuntime) -> Result<(), Fail> {
+    let script = b"flashwrite 0x8000 00000000\nhello".as_slice();
+    let flash = MemFlash::new(rt.alloc(), &ERASED, &[2])?;
+    let failed = (
+        Exit::Done,
+        b"EC result 2 (ERROR)\nEC says hello!\n".as_slice(),
+    );
+    let _entries = plays(&rt, flash, script, (&[], &[]), failed)?;
+    let dying = Dying {
+        cuts: 0,
+        fetched: 0,
+    };
+    let lost = (Exit::Done, b"EC has no power\nEC has no power\n".as_slice());
+    let _entries = plays(&rt, dying, script, (&[], &[]), lost)?;
+    Ok(())
+}
+
+// A run with this word on this flash is refused before the script is read.
+fn refuses<R: Abort + AllocGlobal>(
+    rt: &R,
+    word: &[u8],
+    flash: MemFlash,
+    exit: Exit,
+) -> Result<(), Fail> {
+    let mut source = MemSource::new(rt.alloc(), b"hello", &[])?;
+    let mut sink = MemSink::new(rt.alloc(), 100, &[])?;
+    let word = Word::new(rt.alloc(), word)?;
+    let ended = run(rt.alloc(), &[word], flash, &mut source, &mut sink);
+    assert_eq!(rt; ended.exit, exit);
+    assert_eq!(rt; source.taken(), 0);
+    Ok(())
+}
+
+#[test]
+fn a_run_that_does_not_begin_is_refused(rt: HostRuntime) -> Result<(), Fail> {
+    let odd = MemFlash::new(rt.alloc(), &[0xFF; 65535], &[])?;
+    refuses(&rt, b"flash", odd, Exit::BadFlash)?;
+    let flash = MemFlash::new(rt.alloc(), &ERASED, &[])?;
+    refuses(&rt, b"-f", flash, Exit::BadWords)?;
+    Ok(())
+}
+
+#[test]
 fn the_packets_are_on_the_bus(rt: HostRuntime) -> Result<(), Fail> {
-    let flash = MemFlash::new(rt.alloc(), &[0xFF; 65536], &[])?;
+    let flash = MemFlash::new(rt.alloc(), &ERASED, &[])?;
     let mut source = MemSource::new(rt.alloc(), b"hello\n", &[])?;
     let mut sink = MemSink::new(rt.alloc(), 100, &[])?;
     let word = Word::new(rt.alloc(), b"flash")?;
