@@ -32,6 +32,11 @@ pub record MarksLine (number : ℕ) (old new : WireView) : Type 0 where
   pub spare : ℕ
   pub adds : Adds (Mark number) (with_spare spare old) new
 
+-- a line was marked; or memory was refused, and nothing happened
+abbrev pub BeginsLine : Result (Unit {0}) Exit → ℕ → WireView → WireView → Type 0
+BeginsLine (Ok done) number old new = MarksLine number old new
+BeginsLine (Err exit) number old new = (exit ≡ NoMemory) × (new ≡ old)
+
 -- a line was marked and carried out; this is its text
 pub record CarriesLine (number : ℕ) (line text : List ℕ) (old new : WireView) : Type 0 where
   pub tool : Tool

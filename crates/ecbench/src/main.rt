@@ -30,6 +30,7 @@ fn main(rt: HostRuntime) -> ExitCode {
     let Some(path) = words.first().and_then(Word::flash_path) else {
         return told(&rt, Exit::BadWords);
     };
+    let _held = hold_streams(&rt);
     let flash = match open_flash(&rt, path) {
         Ok(flash) => flash,
         Err(error) => {
@@ -50,6 +51,16 @@ fn read_words(alloc: Global, args: Args) -> io::Result<Vec<Word>> {
         words.push(Word::new(alloc, arg.as_bytes())?)?;
     }
     Ok(words)
+}
+
+// Opens three files that hold nothing. A file that is opened gets the first number that is free, so that the flash gets
+// none of a standard stream that is closed.
+fn hold_streams(rt: &HostRuntime) -> io::Result<(File, File, File)> {
+    Ok((
+        File::open(rt, "/dev/null")?,
+        File::open(rt, "/dev/null")?,
+        File::open(rt, "/dev/null")?,
+    ))
 }
 
 // The flash over a file that is there, to be read and written.

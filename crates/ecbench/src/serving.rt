@@ -1,11 +1,11 @@
 // A script, served line by line.
-ghost use Rattle.std.specs.Prelude.{◌≡◌, ◌≤◌, ◌↔◌, false, IsTrue, IsFalse};
+ghost use Rattle.std.specs.Prelude.{◌≡◌, ◌≤◌, ◌↔◌, false, IsTrue, IsFalse, OnOk};
 ghost use Rattle.flash_dev.specs.Counts.{Rose};
 ghost use Rattle.ec_types.specs.declared.bus.BusKind.TheVariants.{Lpc as LpcKind};
 ghost use Rattle.bench_wire.specs.BenchView.{wire_view};
 ghost use Rattle.bench_wire.specs.Adding.{is_byte};
 ghost use Rattle.script_lines.specs.Lines.{line_of};
-ghost use Rattle.ecbench.specs.Serving.{Drives, Serves, PowersOn, ServesLine, ServesEvent, exit_at};
+ghost use Rattle.ecbench.specs.Serving.{Drives, Serves, PowersOn, ServesLine, ServesEvent, BeginsLine, exit_at};
 
 use crate::run::Exit;
 use bench_io::{Sink, Source, put_all};
@@ -138,11 +138,7 @@ fn serve_tool<F: FlashDev, K: Sink>(
         Ok(tool) => tool,
         Err(why) => return Err(Exit::BadLine { line: number, why }),
     };
-    match bench.reserve(1) {
-        Ok(()) => {}
-        Err(_) => return Err(Exit::NoMemory),
-    }
-    bench.mark(number);
+    begin(bench, number)?;
     match run(bench, &tool, sink) {
         Ok(()) => Ok(()),
         Err(ToolErr::Sink) => Err(Exit::SinkFault),
@@ -162,14 +158,23 @@ fn serve_event<F: FlashDev, K: Sink>(
     ensures sink_fault { result ≡ Err Exit.SinkFault → Rose (K.faults sink.old) (K.faults sink.new) }
     ensures later { K.faults sink.old ≤ K.faults sink.new }
 {
-    match bench.reserve(2) {
-        Ok(()) => {}
-        Err(_) => return Err(Exit::NoMemory),
-    }
-    bench.mark(number);
+    begin(bench, number)?;
     bench.world(happened);
     match put_all(sink, b"ok\n") {
         Ok(()) => Ok(()),
         Err(Failed) => Err(Exit::SinkFault),
     }
+}
+
+// Makes room for a line's mark and for one event behind it, and marks the line.
+fn begin<F: FlashDev>(bench: &mut Bench<Lpc, F>, number: u32) -> Result<(), Exit>
+    ensures begins { BeginsLine result number (wire_view LpcKind bench.old) (wire_view LpcKind bench.new) }
+    ensures room { OnOk result (1 ≤ bench.new.spare) }
+{
+    match bench.reserve(2) {
+        Ok(()) => {}
+        Err(_) => return Err(Exit::NoMemory),
+    }
+    bench.mark(number);
+    Ok(())
 }

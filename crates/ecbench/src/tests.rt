@@ -94,6 +94,18 @@ fn each_line_prints_its_text(rt: HostRuntime) -> Result<(), Fail> {
         (b"# hello\n\n  \n#\r\nhello".as_slice(), GREETING),
         (b"flashread 0x8000 0".as_slice(), b"\n".as_slice()),
         (
+            b"power off\nhello\npin off\nreset pin\npower on\nhello".as_slice(),
+            b"ok\nEC has no power\nok\nok\nok\nEC says hello!\n".as_slice(),
+        ),
+        (
+            b"reset watchdog\nflashread 0x8000 2".as_slice(),
+            b"ok\nffff\n".as_slice(),
+        ),
+        (
+            b"chipinfo\nregioninfo active\ntest 5 4 00".as_slice(),
+            b"vendor bench name ecbench revision 1\noffset 32768 size 32768\nEC result 5 (INVALID_RESPONSE)\n".as_slice(),
+        ),
+        (
             b"flashread 0xfffffffc 8".as_slice(),
             b"EC result 3 (INVALID_PARAM)\n".as_slice(),
         ),
