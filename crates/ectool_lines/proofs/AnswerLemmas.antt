@@ -93,8 +93,8 @@ ready-at core window outcome valid =
   where
     idle-on : (core : Core) (window : List ℕ) (outcome : ℕ) (awake : Awake) → On (record { live = core.live; nonce = core.nonce; bus = OnLpc (record { window = window; status = 0; outcome = outcome }) }) ≡ On awake → ShowsIdle 0 awake.bus
     idle-on core window outcome awake same =
-      let bus : OnLpc (record { window = window; status = 0; outcome = outcome }) ≡ awake.bus = ap (bus-in (fresh_bus Lpc)) same in
-      subst (λ (b : BusState). ShowsIdle 0 b) bus (refl, refl)
+        let bus : OnLpc (record { window = window; status = 0; outcome = outcome }) ≡ awake.bus = ap (bus-in (fresh_bus Lpc)) same in
+        subst (λ (b : BusState). ShowsIdle 0 b) bus (refl, refl)
 
 -- a command that was answered by a controller that is on
 pub record IsHeard (table : Table) (asked : Asked) (entries : List Entry) (ending : Ending) (after : Bool) (last : Table) : Type 0 where

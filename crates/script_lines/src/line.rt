@@ -19,5 +19,7 @@ pub enum Line {
         on: bool,
     },
     /// `reset pin`, `reset watchdog`: a reset from outside.
-    Reset { cause: WorldReset },
+    Reset {
+        cause: WorldReset,
+    },
 }
