@@ -21,7 +21,7 @@ use Rattle.host_transport.specs.Ends.{ending_of}
 use Rattle.host_transport.specs.declared.ending.Once.{Once}
 use Rattle.host_transport.specs.declared.ending.Once.TheVariants.{Status, Bad, Silent, NoPower}
 use Rattle.ectool_lines.specs.declared.tool.Tool.{Tool}
-use Rattle.ectool_lines.specs.declared.tool.Tool.TheVariants.{Hello, ChipInfo, CmdVersions, ProtoInfo, FlashInfo, RegionInfo, FlashRead, FlashWrite, Test}
+use Rattle.ectool_lines.specs.declared.tool.Tool.TheVariants.{Hello, ChipInfo, CmdVersions, ProtoInfo, FlashInfo, RegionInfo, FlashRead, FlashWrite, FlashProtect, Test}
 use Rattle.ectool_lines.specs.Tools.{IsInRange}
 use Rattle.ectool_lines.specs.Requests.{Asked, packet_of, first_of, parts_of, count_of, command_of, commands_of}
 use Rattle.ectool_lines.specs.Texts.{Succeeded, Stopped, printed, replies_text, reply_text, closing_text, refusal_text}
@@ -170,6 +170,7 @@ count-few FlashInfo within = omega arith
 count-few (RegionInfo region) within = omega arith
 count-few (FlashRead at size) within = parts-few size within
 count-few (FlashWrite at bytes) within = write_parts-few (length bytes) within.1
+count-few (FlashProtect mask flags) within = omega arith
 count-few (Test ec_result ret_len bytes) within = omega arith
 
 -- the body of a write of at most so many bytes
@@ -198,6 +199,7 @@ command-short FlashInfo k within = omega arith
 command-short (RegionInfo region) k within = omega arith
 command-short (FlashRead at size) k within = omega arith
 command-short (FlashWrite at bytes) k within = write-short ((at + k * 240) % 2 ^ 32) (take 240 (drop (k * 240) bytes)) (part-short 240 (k * 240) bytes)
+command-short (FlashProtect mask flags) k within = omega arith
 command-short (Test ec_result ret_len bytes) k within = test-short ec_result ret_len bytes within.2
 
 -- what a success has at most on LPC
@@ -210,6 +212,7 @@ command-wants FlashInfo k within = omega arith
 command-wants (RegionInfo region) k within = omega arith
 command-wants (FlashRead at size) k within = omega arith
 command-wants (FlashWrite at bytes) k within = omega arith
+command-wants (FlashProtect mask flags) k within = omega arith
 command-wants (Test ec_result ret_len bytes) k within = omega (arith, within.0)
 
 -- the numbers of the commands of lines are below that of COLD
@@ -222,6 +225,7 @@ command-below FlashInfo k = omega arith
 command-below (RegionInfo region) k = omega arith
 command-below (FlashRead at size) k = omega arith
 command-below (FlashWrite at bytes) k = omega arith
+command-below (FlashProtect mask flags) k = omega arith
 command-below (Test ec_result ret_len bytes) k = omega arith
 
 -- a smaller number is another one

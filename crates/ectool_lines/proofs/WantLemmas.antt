@@ -4,7 +4,7 @@ use Rattle.std.specs.Prelude.{is_some}
 use Rattle.std.proofs.lemmas.List.{length-drop}
 use Rattle.std.proofs.lemmas.Bool.Decides.{leb_tells, eqb_tells}
 use Rattle.ec_types.specs.LittleEndian.{u16_at, u32_at}
-use Rattle.ec_model.specs.Bodies.{hello_ask, cmd_versions_ask1, region_info_ask, test_ask, flash_read_ask}
+use Rattle.ec_model.specs.Bodies.{hello_ask, cmd_versions_ask1, region_info_ask, test_ask, flash_read_ask, flash_protect_ask}
 use Rattle.ec_model.specs.Packet.{RequestView, request_packet}
 use Rattle.ec_model.specs.Ranges.{Range, part, ends_within, region_range}
 use Rattle.ec_model.specs.Commands.{is_write_spelled, known}
@@ -16,7 +16,7 @@ use Rattle.ec_model.specs.Handle.{Admitted, row_of, admitted_from, handled}
 use Rattle.ec_model.proofs.GuardSteps.{if_cases}
 use Rattle.host_runs.proofs.Spelled.{framing-spelled}
 use Rattle.ectool_lines.specs.declared.tool.Tool.{Tool}
-use Rattle.ectool_lines.specs.declared.tool.Tool.TheVariants.{Hello, ChipInfo, CmdVersions, ProtoInfo, FlashInfo, RegionInfo, FlashRead, FlashWrite, Test}
+use Rattle.ectool_lines.specs.declared.tool.Tool.TheVariants.{Hello, ChipInfo, CmdVersions, ProtoInfo, FlashInfo, RegionInfo, FlashRead, FlashWrite, FlashProtect, Test}
 use Rattle.ectool_lines.specs.Tools.{IsInRange}
 use Rattle.ectool_lines.specs.Requests.{region_number, packet_of, command_of}
 use Rattle.ectool_lines.proofs.SendLemmas.{command-short, padded-length}
@@ -117,6 +117,10 @@ test-wanted core ec_result ret_len buf short whole =
     (λ success. (omega arith, λ none. cut-length (u32_at 4 body) ret_len buf (test-result ec_result ret_len buf (omega (arith, short))) short whole))
     (λ other. let tests = leb_tells 21 (u32_at 0 body) in let zero = eqb_tells (u32_at 0 body) 0 in refusal-wanted ret_len core (u32_at 0 body) (grind (arith, zero)) (grind (arith, tests))))
 
+-- FLASH_PROTECT
+protect-wanted : (core : Core) (mask flags : ℕ) → HasWanted 12 (row_of core 256 (admitted_from core (Ok (record { command = 0x15; version = 1; body = flash_protect_ask mask flags }))))
+protect-wanted core mask flags = checked-wanted 12 core true _ (omega arith, λ none. omega arith)
+
 -- each command of a line
 pub command-wanted : (tool : Tool) (k : ℕ) (core : Core) → IsInRange tool → HasWanted (command_of 256 tool k).want (handled core 256 (packet_of (command_of 256 tool k)))
 command-wanted Hello k core within = spelled-wanted 4 core 0x01 0 (hello_ask 0xA0B0C0D0) (omega arith) (omega arith) (hello-wanted core)
@@ -136,6 +140,8 @@ command-wanted (FlashRead at size) k core within =
 command-wanted (FlashWrite at bytes) k core within =
     let body = (command_of 256 (FlashWrite at bytes) k).body in
     spelled-wanted 0 core 0x12 1 body (omega arith) (omega (arith, command-short (FlashWrite at bytes) k within)) (write-wanted core body)
+command-wanted (FlashProtect mask flags) k core within =
+    spelled-wanted 12 core 0x15 1 (flash_protect_ask mask flags) (omega arith) (omega arith) (protect-wanted core mask flags)
 command-wanted (Test ec_result ret_len bytes) k core within =
     let body = test_ask ec_result ret_len (zero_padded 32 bytes) in
     let whole = padded-length 32 bytes within.2 in

@@ -3,10 +3,10 @@ use Rattle.std.specs.Prelude.{ℕ, zero, suc, ◌+◌, ◌-◌, ◌*◌, ◌/◌
 use Rattle.ec_model.specs.Packet.{request_packet}
 use Rattle.flash_dev.specs.declared.geometry.Region.{Region}
 use Rattle.flash_dev.specs.declared.geometry.Region.TheVariants.{Ro, Active, WpRo, Update}
-use Rattle.ec_model.specs.Bodies.{hello_ask, cmd_versions_ask1, region_info_ask, test_ask, flash_read_ask, flash_write_ask}
+use Rattle.ec_model.specs.Bodies.{hello_ask, cmd_versions_ask1, region_info_ask, test_ask, flash_read_ask, flash_write_ask, flash_protect_ask}
 use Rattle.ec_model.specs.InfoRows.{zero_padded}
 use Rattle.ectool_lines.specs.declared.tool.Tool.{Tool}
-use Rattle.ectool_lines.specs.declared.tool.Tool.TheVariants.{Hello, ChipInfo, CmdVersions, ProtoInfo, FlashInfo, RegionInfo, FlashRead, FlashWrite, Test}
+use Rattle.ectool_lines.specs.declared.tool.Tool.TheVariants.{Hello, ChipInfo, CmdVersions, ProtoInfo, FlashInfo, RegionInfo, FlashRead, FlashWrite, FlashProtect, Test}
 
 -- a command as it is sent: its number, its version, its body, and how many bytes a reply has that is a success
 pub record Asked : Type 0 where
@@ -71,6 +71,8 @@ command_of limit ProtoInfo k = question 0x0B 0 12
 command_of limit FlashInfo k = question 0x10 1 24
 command_of limit (RegionInfo region) k =
     record { command = 0x16; version = 1; body = region_info_ask (region_number region); want = 8 }
+command_of limit (FlashProtect mask flags) k =
+    record { command = 0x15; version = 1; body = flash_protect_ask mask flags; want = 12 }
 command_of limit (Test ec_result ret_len bytes) k = test_command ec_result ret_len bytes
 command_of limit (FlashRead at size) k =
     read_command (at + k * (limit - 8)) (min (limit - 8) (size - k * (limit - 8)))

@@ -8,7 +8,7 @@ use Rattle.hex.specs.Hex.{encode_lower}
 use Rattle.ec_types.specs.Tables.{status_name}
 use Rattle.host_transport.specs.Once.{Ending, Said, Bad, Silent, NoPower}
 use Rattle.ectool_lines.specs.declared.tool.Tool.{Tool}
-use Rattle.ectool_lines.specs.declared.tool.Tool.TheVariants.{Hello, ChipInfo, CmdVersions, ProtoInfo, FlashInfo, RegionInfo, FlashRead, FlashWrite, Test}
+use Rattle.ectool_lines.specs.declared.tool.Tool.TheVariants.{Hello, ChipInfo, CmdVersions, ProtoInfo, FlashInfo, RegionInfo, FlashRead, FlashWrite, FlashProtect, Test}
 
 -- a printed line: its text and a line feed
 abbrev pub printed : List ℕ → List ℕ
@@ -50,6 +50,11 @@ flash_info_text size write erase protect ideal flags =
     codes "size " ++ decimal size ++ codes " write " ++ decimal write ++ codes " erase " ++ decimal erase
     ++ codes " protect " ++ decimal protect ++ codes " ideal " ++ decimal ideal ++ codes " flags " ++ hex_text flags
 
+-- FLASH_PROTECT's reply
+abbrev pub protection_text : (flags valid writable : ℕ) → List ℕ
+protection_text flags valid writable =
+    codes "flags " ++ hex_text flags ++ codes " valid " ++ hex_text valid ++ codes " writable " ++ hex_text writable
+
 -- what the reply to one of its commands gives to a line's text
 abbrev pub reply_text : Tool → List ℕ → List ℕ
 reply_text Hello body = []
@@ -62,6 +67,7 @@ reply_text (RegionInfo region) body =
     codes "offset " ++ decimal (u32_at 0 body) ++ codes " size " ++ decimal (u32_at 4 body)
 reply_text (FlashRead at size) body = encode_lower body
 reply_text (FlashWrite at bytes) body = []
+reply_text (FlashProtect mask flags) body = protection_text (u32_at 0 body) (u32_at 4 body) (u32_at 8 body)
 reply_text (Test ec_result ret_len bytes) body = encode_lower body
 
 -- what all the replies give, in their order

@@ -1,5 +1,5 @@
 -- The lines that send commands to the controller.
-use Rattle.std.specs.Prelude.{◌≤◌, ℕ, List, [], ◌∷◌, length, codes, Option, Some, None, Result, Err, if◌then◌else◌}
+use Rattle.std.specs.Prelude.{◌≤◌, ℕ, List, [], ◌∷◌, length, codes, Option, Some, None, Result, Ok, Err, if◌then◌else◌}
 use Rattle.std.specs.Option.{ok_or}
 use Rattle.std.specs.Str.{bytes_eq}
 use Rattle.ec_types.specs.declared.why.Why.{Why}
@@ -8,9 +8,9 @@ use Rattle.flash_dev.specs.declared.geometry.Region.{Region}
 use Rattle.flash_dev.specs.declared.geometry.Region.TheVariants.{Ro, Active, WpRo, Update}
 use Rattle.script_words.specs.Words.{words_of}
 use Rattle.script_words.specs.Lines.{checked}
-use Rattle.script_words.specs.Forms.{◌>>=◌, alone, with_one, with_two, with_three, number_to, hex_to}
+use Rattle.script_words.specs.Forms.{◌>>=◌, two_words, alone, with_one, with_two, with_three, number_to, hex_to}
 use Rattle.ectool_lines.specs.declared.tool.Tool.{Tool}
-use Rattle.ectool_lines.specs.declared.tool.Tool.TheVariants.{Hello, ChipInfo, CmdVersions, ProtoInfo, FlashInfo, RegionInfo, FlashRead, FlashWrite, Test}
+use Rattle.ectool_lines.specs.declared.tool.Tool.TheVariants.{Hello, ChipInfo, CmdVersions, ProtoInfo, FlashInfo, RegionInfo, FlashRead, FlashWrite, FlashProtect, Test}
 
 -- the region that a word names
 abbrev pub region_named : List ℕ → Option Region
@@ -25,6 +25,31 @@ region_named word =
 abbrev pub region_to : List ℕ → Result Region Why
 region_to word = ok_or (region_named word) Word
 
+-- the mask and the flags that a form of flashprotect names
+abbrev pub protect_named : List ℕ → Option Tool
+protect_named form =
+    if bytes_eq form (codes "now") then Some (FlashProtect 4 4) else
+    if bytes_eq form (codes "enable") then Some (FlashProtect 1 1) else
+    if bytes_eq form (codes "disable") then Some (FlashProtect 1 0) else
+    None
+
+-- flashprotect with bits: a mask and flags
+abbrev pub protect_bits : List ℕ → List (List ℕ) → Result Tool Why
+protect_bits form words =
+    two_words words >>= λ pair. if bytes_eq form (codes "bits")
+    then (number_to 0xFFFFFFFF pair.0 >>= λ mask. number_to 0xFFFFFFFF pair.1 >>= λ flags. Ok (FlashProtect mask flags))
+    else Err Word
+
+-- flashprotect behind the word of its form
+abbrev pub protect_form : List ℕ → List (List ℕ) → Result Tool Why
+protect_form form [] = ok_or (protect_named form) Word
+protect_form form (word ∷ words) = protect_bits form (word ∷ words)
+
+-- flashprotect by the words behind it: none asks, one names a form, and three are bits
+abbrev pub protect_by : List (List ℕ) → Result Tool Why
+protect_by [] = Ok (FlashProtect 0 0)
+protect_by (form ∷ words) = protect_form form words
+
 -- a line by its words: the first one, how many stand behind it, and what each of these is
 abbrev pub tool_by : List (List ℕ) → Result Tool Why
 tool_by [] = Err Word
@@ -37,6 +62,7 @@ tool_by (first ∷ words) =
     if bytes_eq first (codes "regioninfo") then with_one region_to RegionInfo words else
     if bytes_eq first (codes "flashread") then with_two (number_to 0xFFFFFFFF) (number_to 4096) FlashRead words else
     if bytes_eq first (codes "flashwrite") then with_two (number_to 0xFFFFFFFF) (hex_to 4096) FlashWrite words else
+    if bytes_eq first (codes "flashprotect") then protect_by words else
     if bytes_eq first (codes "test") then with_three (number_to 0xFFFFFFFF) (number_to 32) (hex_to 32) Test words else
     Err Word
 

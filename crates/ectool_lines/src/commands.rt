@@ -2,13 +2,13 @@
 ghost use Rattle.std.specs.Prelude.{◌≡◌, ◌≤◌, ◌<◌, ◌+◌, ◌-◌, ◌*◌, length, take, drop, min};
 ghost use Rattle.ectool_lines.specs.Tools.{IsInRange};
 ghost use Rattle.ectool_lines.specs.Requests.{parts_of, count_of, command_of, hello_command, question, region_number, test_command, read_command, write_command};
-ghost use Rattle.ec_model.specs.Bodies.{cmd_versions_ask1, region_info_ask};
+ghost use Rattle.ec_model.specs.Bodies.{cmd_versions_ask1, region_info_ask, flash_protect_ask};
 ghost use Rattle.ec_model.specs.InfoRows.{zero_padded};
 ghost use Rattle.ectool_lines.specs.Sending.{asked_of};
 
 use crate::Tool;
 use ec_packet::Packet;
-use ec_params::{CmdVersionsAsk1, FlashReadAsk, FlashWriteAsk, HelloAsk, RegionInfoAsk, TestAsk};
+use ec_params::{CmdVersionsAsk1, FlashProtectAsk, FlashReadAsk, FlashWriteAsk, HelloAsk, RegionInfoAsk, TestAsk};
 use flash_dev::Region;
 use std::cmp::min;
 
@@ -57,6 +57,7 @@ impl Tool {
             Tool::ProtoInfo => question(0x0B, 0, 12),
             Tool::FlashInfo => question(0x10, 1, 24),
             Tool::RegionInfo { region } => region_info(*region),
+            Tool::FlashProtect { mask, flags } => flash_protect(*mask, *flags),
             Tool::Test {
                 ec_result,
                 ret_len,
@@ -142,6 +143,20 @@ fn region_info(region: Region) -> Command
         version: 1,
         body,
         want: 8,
+    }
+}
+
+// FLASH_PROTECT.
+fn flash_protect(mask: u32, flags: u32) -> Command
+    ensures { asked_of result ≡ record { command = 0x15; version = 1; body = flash_protect_ask mask flags; want = 12 } }
+{
+    let mut body = Packet::new();
+    FlashProtectAsk { mask, flags }.write(&mut body);
+    Command {
+        number: 0x15,
+        version: 1,
+        body,
+        want: 12,
     }
 }
 

@@ -1,8 +1,8 @@
 // Reading a line.
-ghost use Rattle.std.specs.Prelude.{◌≡◌, ◌∷◌, IfOk};
+ghost use Rattle.std.specs.Prelude.{◌≡◌, ◌∷◌, IfOk, IfSome};
 ghost use Rattle.script_words.specs.Words.{words_of};
 ghost use Rattle.script_words.specs.Forms.{alone, with_one, with_two, with_three, number_to, hex_to};
-ghost use Rattle.ectool_lines.specs.Tools.{region_named, region_to, tool_of, tool_by, IsInRange};
+ghost use Rattle.ectool_lines.specs.Tools.{region_named, region_to, protect_named, protect_bits, protect_form, protect_by, tool_of, tool_by, IsInRange};
 
 use crate::Tool;
 use ec_types::Why;
@@ -45,6 +45,8 @@ fn by_words(first: &[u8], rest: &[u8]) -> Result<Tool, Why>
         flash_read(rest)
     } else if is_word(first, b"flashwrite") {
         flash_write(rest)
+    } else if is_word(first, b"flashprotect") {
+        flash_protect(rest)
     } else if is_word(first, b"test") {
         test(rest)
     } else {
@@ -117,6 +119,58 @@ fn flash_write(words: &[u8]) -> Result<Tool, Why>
     Ok(Tool::FlashWrite {
         at: number_to(at, u32::MAX)?,
         bytes: hex_to(bytes, 4096)?,
+    })
+}
+
+fn flash_protect(words: &[u8]) -> Result<Tool, Why>
+    ensures tool { result ≡ protect_by (words_of words.now) }
+    ensures within { IfOk result IsInRange }
+{
+    match next_word(words) {
+        Some((form, rest)) => protect_form(form, rest),
+        None => Ok(Tool::FlashProtect { mask: 0, flags: 0 }),
+    }
+}
+
+// `flashprotect` behind the word of its form.
+fn protect_form(form: &[u8], words: &[u8]) -> Result<Tool, Why>
+    ensures tool { result ≡ protect_form form.now (words_of words.now) }
+    ensures within { IfOk result IsInRange }
+{
+    match next_word(words) {
+        Some(_) => protect_bits(form, words),
+        None => protect_named(form).ok_or(Why::Word),
+    }
+}
+
+// What a form of `flashprotect` asks for that is a single word.
+fn protect_named(form: &[u8]) -> Option<Tool>
+    ensures tool { result ≡ protect_named form.now }
+    ensures within { IfSome result IsInRange }
+{
+    if is_word(form, b"now") {
+        Some(Tool::FlashProtect { mask: 4, flags: 4 })
+    } else if is_word(form, b"enable") {
+        Some(Tool::FlashProtect { mask: 1, flags: 1 })
+    } else if is_word(form, b"disable") {
+        Some(Tool::FlashProtect { mask: 1, flags: 0 })
+    } else {
+        None
+    }
+}
+
+// `flashprotect bits M F`.
+fn protect_bits(form: &[u8], words: &[u8]) -> Result<Tool, Why>
+    ensures tool { result ≡ protect_bits form.now (words_of words.now) }
+    ensures within { IfOk result IsInRange }
+{
+    let (mask, flags) = two_words(words)?;
+    if !is_word(form, b"bits") {
+        return Err(Why::Word);
+    }
+    Ok(Tool::FlashProtect {
+        mask: number_to(mask, u32::MAX)?,
+        flags: number_to(flags, u32::MAX)?,
     })
 }
 

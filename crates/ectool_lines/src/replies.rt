@@ -3,13 +3,13 @@ ghost use Rattle.std.specs.Prelude.{◌≡◌, ◌≤◌, ◌+◌, ◌*◌, ◌+
 ghost use Rattle.std.specs.Fmt.{decimal};
 ghost use Rattle.ec_types.specs.LittleEndian.{u32_at};
 ghost use Rattle.ectool_lines.specs.Requests.{command_of};
-ghost use Rattle.ectool_lines.specs.Texts.{reply_text, hex_text, chip_text, proto_info_text, flash_info_text};
+ghost use Rattle.ectool_lines.specs.Texts.{reply_text, hex_text, chip_text, proto_info_text, flash_info_text, protection_text};
 ghost use Rattle.ectool_lines.specs.declared.tool.Tool.TheVariants as tool;
 
 use crate::Tool;
 use crate::text::LineText;
 use ec_packet::Packet;
-use ec_params::{ChipSay, CmdVersionsSay, FlashInfoSay1, ProtoInfoSay, RegionInfoSay};
+use ec_params::{ChipSay, CmdVersionsSay, FlashInfoSay1, FlashProtectSay, ProtoInfoSay, RegionInfoSay};
 
 impl LineText {
     /// Appends what the reply to a command of the line gives to its text.
@@ -27,6 +27,7 @@ impl LineText {
             Tool::ProtoInfo => self.add_proto_info(reply.as_slice()),
             Tool::FlashInfo => self.add_flash_info(reply.as_slice()),
             Tool::RegionInfo { .. } => self.add_range(reply.as_slice()),
+            Tool::FlashProtect { .. } => self.add_protection(reply.as_slice()),
             Tool::FlashRead { .. } | Tool::Test { .. } => self.append_hex(reply.as_slice()),
         }
     }
@@ -134,5 +135,28 @@ impl LineText {
             }
             None => unreachable!(),
         }
+    }
+
+    // FLASH_PROTECT's reply.
+    fn add_protection(&mut self, reply: &[u8])
+        requires sized { length reply.now ≡ 12 }
+        requires fits { length self.old ≤ 11500 }
+        ensures text { self.new ≡ self.old ++ protection_text (u32_at 0 reply.now) (u32_at 4 reply.now) (u32_at 8 reply.now) }
+        ensures long { length self.new ≤ length self.old + 200 }
+    {
+        match FlashProtectSay::read(reply) {
+            Some(say) => self.protection(&say),
+            None => unreachable!(),
+        }
+    }
+
+    fn protection(&mut self, say: &FlashProtectSay)
+        requires fits { length self.old ≤ 11500 }
+        ensures text { self.new ≡ self.old ++ protection_text say.now.flags say.now.valid say.now.writable }
+        ensures long { length self.new ≤ length self.old + 200 }
+    {
+        self.append_mask(b"flags ", say.flags);
+        self.append_mask(b" valid ", say.valid);
+        self.append_mask(b" writable ", say.writable);
     }
 }

@@ -66,6 +66,26 @@ fn questions_are_read(rt: HostRuntime) {
 }
 
 #[test]
+fn protection_has_five_forms(rt: HostRuntime) {
+    for (line, want) in [
+        (b"flashprotect".as_slice(), (0, 0)),
+        (b"flashprotect now", (4, 4)),
+        (b"flashprotect enable", (1, 1)),
+        (b"flashprotect disable", (1, 0)),
+        (b"flashprotect bits 0x40 64", (0x40, 64)),
+    ] {
+        match parse(line) {
+            Ok(Tool::FlashProtect { mask, flags }) => assert_eq!(rt; (mask, flags), want),
+            _ => assert!(rt; false),
+        }
+    }
+    assert!(rt; matches!(parse(b"flashprotect now 1"), Err(Why::Count)));
+    assert!(rt; matches!(parse(b"flashprotect never"), Err(Why::Word)));
+    assert!(rt; matches!(parse(b"flashprotect bit 1 x"), Err(Why::Word)));
+    assert!(rt; matches!(parse(b"flashprotect bits x 1"), Err(Why::Number)));
+}
+
+#[test]
 fn the_first_fault_counts(rt: HostRuntime) {
     assert!(rt; matches!(parse(&[b'\t'; 16_385]), Err(Why::TooLong)));
     assert!(rt; matches!(parse(&[b'a'; 16_385]), Err(Why::TooLong)));

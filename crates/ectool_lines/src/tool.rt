@@ -36,6 +36,13 @@ pub enum Tool {
         /// At least one byte, and at most 4,096.
         bytes: LineBytes,
     },
+    /// `flashprotect` in its five forms
+    FlashProtect {
+        /// Which bits are to change.
+        mask: u32,
+        /// What they are to be.
+        flags: u32,
+    },
     /// `test R N HEX`
     Test {
         /// The status that is wanted.
