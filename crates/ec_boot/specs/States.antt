@@ -1,12 +1,11 @@
 -- A controller without its bus, as contracts see it.
-use Rattle.std.specs.Prelude.{◌≡◌, ℕ, ◌/◌, ◌≤◌, Bool, ◌&&◌, ◌||◌, List, IsTrue, IsFalse, if◌then◌else◌, Option, None, option_map, Result, Ok, Err}
-use Rattle.flash_dev.specs.Flash.{block_size}
-use Rattle.flash_dev.specs.Counts.{Rose, raised_by}
+use Rattle.std.specs.Prelude.{◌≡◌, ℕ, Bool, ◌&&◌, ◌||◌, List, IsTrue, IsFalse, Option, None, option_map, Result, Ok, Err}
 use Rattle.flash_dev.specs.Device.{DeviceView, IsChange}
 use Rattle.flash_dev.specs.declared.device.DevErr.{DevErr}
-use Rattle.flash_ctl.specs.Locks.{CtlView, no_locks, with_locked}
+use Rattle.flash_ctl.specs.Locks.{CtlView}
 use Rattle.flash_ctl.specs.declared.CtlErr.{CtlErr}
 use Rattle.flash_ctl.specs.declared.CtlErr.TheVariants.{Locked, Device}
+use Rattle.flash_protect.specs.Locking.{locks_of}
 use Rattle.ec_types.specs.declared.image.ImageCopy.TheVariants.{Ro, Rw}
 use Rattle.ec_model.specs.declared.live.Live.{Live}
 use Rattle.ec_model.specs.declared.live.HashView.TheVariants.{Idle}
@@ -33,13 +32,6 @@ core_at run flash = record { flash = flash; pin = run.pin; live = run.live; nonc
 abbrev pub told_core : RunView → Option Core
 told_core run = option_map (core_at run) run.device.held
 
--- the locks of a flash of this size
-abbrev pub locks_of : ℕ → Bool → Bool → List Bool
-locks_of size ro all =
-    if all then with_locked 0 (size / block_size) no_locks else
-    if ro then with_locked 0 (size / 2 / block_size) no_locks else
-    no_locks
-
 -- whether the locks of the live state cover some byte of a range
 abbrev pub is_lock_blocked : ℕ → Live → Range → Bool
 is_lock_blocked size live range = (live.ro_now && overlaps range (wp_ro_range size)) || live.all_now
@@ -61,16 +53,6 @@ pub record IsLiveValid (run : RunView) : Type 0 where
   pub jumped : run.live.copy ≡ Rw → IsTrue run.live.jumped
   pub erase : IsErasable run.device.extent run.live run.live.erase
   pub hash : IsHashable run.device.extent run.live.hash run.nonce
-
--- a boot looked at the device once; `unread` says that this failed
-pub record IsLookedAt (unread : Bool) (old new : DeviceView) : Type 0 where
-  pub kept : new.held ≡ old.held
-  pub extent : new.extent ≡ old.extent
-  pub faults : old.faults ≤ new.faults
-  pub failed : IsTrue unread → Rose old.faults new.faults
-  pub cuts : old.cuts ≤ new.cuts
-  pub wear : new.wear ≡ old.wear
-  pub fetched : new.fetched ≡ raised_by 8 old.fetched
 
 -- a change of a range by the device, on a controller that is on: a hash over the range is dropped
 pub record IsDone {T : Type 0} (at size : ℕ) (made : List ℕ → List ℕ) (old new : RunView) (result : Result T DevErr) : Type 0 where

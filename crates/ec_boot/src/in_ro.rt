@@ -1,17 +1,17 @@
 // On, with the RO image running.
-ghost use Rattle.std.specs.Prelude.{◌≡◌, None, option_map, length, IfSome, IsTrue, IsFalse};
+ghost use Rattle.std.specs.Prelude.{◌≡◌, None, option_map, IsTrue};
 ghost use Rattle.ec_model.specs.declared.live.HashView.TheVariants.{Idle};
 ghost use Rattle.ec_model.specs.Ranges.{is_flash_size};
 ghost use Rattle.ec_model.specs.Boot.{booted};
-ghost use Rattle.ec_model.specs.Stored.{stored_bytes};
-ghost use Rattle.ec_boot.specs.States.{told_core, IsLookedAt, IsLiveValid, locks_of};
+ghost use Rattle.flash_protect.specs.Setting.{IsLookedAt};
+ghost use Rattle.ec_boot.specs.States.{told_core, IsLiveValid};
 
-use crate::stored::{says_all, says_ro};
 use crate::{Off, Running};
-use ec_model::{HashView, Live};
+use ec_model::{HashView, Live, ProtectView};
 use ec_types::{ImageCopy, ResetCause, flags_of};
 use flash_ctl::{Ctl, CtlErr};
-use flash_dev::{Failed, FlashDev, Geometry};
+use flash_dev::{DevErr, Failed, FlashDev, Geometry};
+use flash_protect::Protect;
 use std::marker::Model;
 
 /// A controller that is on and runs its RO image.
@@ -32,33 +32,6 @@ impl<F: FlashDev> Model for InRo<F> {
     ghost invariant = { λ on. IsRunning on.ctl on.live };
 }
 
-// The first bytes of the stored protection; true where they cannot be read.
-fn read_stored<F: FlashDev>(ctl: &mut Ctl<F>, bytes: &mut [u8]) -> bool
-    requires size { IsTrue (is_flash_size ctl.old.device.extent) }
-    requires room { length bytes.old ≡ 8 }
-    ensures looked { IsLookedAt result ctl.old.device ctl.new.device }
-    ensures locks { ctl.new.locks ≡ ctl.old.locks }
-    ensures bytes { IsFalse result → IfSome ctl.old.device.held (λ flash. bytes.new ≡ stored_bytes flash) }
-{
-    let half = ctl.geometry().size() / 2;
-    ctl.read(half - 4096, bytes).is_err()
-}
-
-// The locks that a boot sets, in place of all others.
-fn lock<F: FlashDev>(ctl: &mut Ctl<F>, ro: bool, all: bool)
-    requires size { IsTrue (is_flash_size ctl.old.device.extent) }
-    ensures device { ctl.new.device ≡ ctl.old.device }
-    ensures locks { ctl.new.locks ≡ locks_of ctl.old.device.extent ro all }
-{
-    ctl.reset();
-    let size = ctl.geometry().size();
-    if all {
-        ctl.lock(0, size / 4096);
-    } else if ro {
-        ctl.lock(0, size / 2 / 4096);
-    }
-}
-
 impl<F: FlashDev> InRo<F> {
     // A boot: the protection is read and locked, and RO runs.
     pub(crate) fn boot(mut ctl: Ctl<F>, pin: bool, cause: ResetCause) -> InRo<F>
@@ -67,18 +40,15 @@ impl<F: FlashDev> InRo<F> {
         ensures booted { told_core result ≡ option_map (λ flash. booted flash pin cause result.live.pstate_bad) ctl.device.held }
         ensures pin { result.pin ≡ pin }
     {
-        let mut bytes = [0u8; 8];
-        let bad = read_stored(&mut ctl, &mut bytes);
-        let ro = pin && (says_ro(&bytes) || bad);
-        let all = ro && !bad && says_all(&bytes);
-        lock(&mut ctl, ro, all);
+        ctl.reset();
+        let protect = Protect::boot(&mut ctl, pin);
         let live = Live {
             copy: ImageCopy::Ro,
             flags: flags_of(cause),
             jumped: false,
-            ro_now: ro,
-            all_now: all,
-            pstate_bad: bad,
+            ro_now: protect.ro_now,
+            all_now: protect.all_now,
+            pstate_bad: protect.bad,
             jump_off: false,
             hash: HashView::Idle,
             erase: None,
@@ -142,5 +112,18 @@ impl<F: FlashDev> Running for InRo<F> {
 
     fn program(&mut self, at: u32, bytes: &[u8]) -> Result<(), CtlErr> {
         self.ctl.program(at, bytes)
+    }
+
+    fn protect(&mut self, mask: u32, flags: u32) -> Result<ProtectView, DevErr> {
+        let mut protect = Protect {
+            ro_now: self.live.ro_now,
+            all_now: self.live.all_now,
+            bad: self.live.pstate_bad,
+        };
+        // No command starts a hash yet, so that none is over the range of the operations.
+        let (_range, result) = protect.set(&mut self.ctl, self.pin, mask, flags);
+        self.live.ro_now = protect.ro_now;
+        self.live.all_now = protect.all_now;
+        result
     }
 }

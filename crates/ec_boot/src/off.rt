@@ -2,7 +2,8 @@
 ghost use Rattle.std.specs.Prelude.{◌≡◌, option_map};
 ghost use Rattle.ec_types.specs.declared.reset.ResetCause.TheVariants.{PowerOn};
 ghost use Rattle.ec_model.specs.Boot.{booted};
-ghost use Rattle.ec_boot.specs.States.{told_core, IsLookedAt};
+ghost use Rattle.flash_protect.specs.Setting.{IsLookedAt};
+ghost use Rattle.ec_boot.specs.States.{told_core};
 
 use crate::InRo;
 use ec_types::ResetCause;

@@ -1,13 +1,17 @@
 // What a controller that is on can be asked and told, whichever image runs.
-ghost use Rattle.std.specs.Prelude.{◌≡◌, ◌≤◌, ◌+◌, ◌%◌, length, IfSome, IsTrue};
+ghost use Rattle.std.specs.Prelude.{◌≡◌, ◌≤◌, ◌+◌, ◌%◌, length, None, IfSome, IsTrue};
 ghost use Rattle.flash_dev.specs.Flash.{programmed};
 ghost use Rattle.flash_dev.specs.Device.{IsRead};
 ghost use Rattle.ec_model.specs.Ranges.{is_flash_size};
-ghost use Rattle.ec_boot.specs.States.{RunView, IsLiveValid, IsOperated};
+ghost use Rattle.ec_model.specs.ProtectRow.{protect_operations};
+ghost use Rattle.flash_dev.specs.Told.{Changes};
+ghost use Rattle.flash_protect.specs.Spent.{Costs, hurt_of};
+ghost use Rattle.ec_boot.specs.States.{RunView, told_core, IsLiveValid, IsOperated};
+ghost use Rattle.ec_boot.specs.Ran.{IsProtected, WearsAtMost};
 
-use ec_model::Live;
+use ec_model::{Live, ProtectView};
 use flash_ctl::CtlErr;
-use flash_dev::{Failed, Geometry};
+use flash_dev::{DevErr, Failed, Geometry};
 
 /// The calls of a controller that is on.
 pub trait Running {
@@ -48,4 +52,14 @@ pub trait Running {
         requires short { length bytes.now ≤ 64 }
         requires inside { at + length bytes.now ≤ (run self.old).device.extent }
         ensures { IsOperated at (length bytes.now) (programmed at bytes.now) (run self.old) (run self.new) result };
+
+    /// FLASH_PROTECT: the stored bits are changed, where others are wanted and RO is not locked, and then the locks that
+    /// are asked for are set, if the pin is asserted and RO is locked from the next boot on. A hash over the range of its
+    /// operations is dropped.
+    fn protect(&mut self, mask: u32, flags: u32) -> Result<ProtectView, DevErr>
+        requires { (run self.old).live.erase ≡ None }
+        ensures told { Changes (λ before after. IsProtected mask flags before after result) (told_core (run self.old)) (told_core (run self.new)) }
+        ensures pin { (run self.new).pin ≡ (run self.old).pin }
+        ensures wear { WearsAtMost (λ core. protect_operations core mask flags) (run self.old) (run self.new).device.wear }
+        ensures spent { Costs (hurt_of result) 8 (run self.old).device (run self.new).device };
 }

@@ -1,7 +1,9 @@
 -- What a call costs the device.
-use Rattle.std.specs.Prelude.{◌≡◌, ℕ, ◌+◌, ◌≤◌, min}
+use Rattle.std.specs.Prelude.{◌≡◌, ℕ, ◌+◌, ◌≤◌, min, Result, Ok, Err}
 use Rattle.flash_dev.specs.Counts.{Rose, last_count}
 use Rattle.flash_dev.specs.Device.{DeviceView}
+use Rattle.flash_dev.specs.declared.device.DevErr.{DevErr}
+use Rattle.flash_dev.specs.declared.device.DevErr.TheVariants.{Failed as FailedErr, PowerLost}
 use Rattle.ec_model.specs.declared.event.Hurt.{Hurt}
 use Rattle.ec_model.specs.declared.event.Hurt.TheVariants.{Whole, Failed, Cut}
 
@@ -23,3 +25,9 @@ pub record Costs (hurt : Hurt) (asked : ℕ) (old new : DeviceView) : Type 0 whe
   pub cuts : old.cuts ≤ new.cuts
   pub rose : HurtRose hurt old new
   pub fetched : RisesAtMost asked old.fetched new.fetched
+
+-- what a call that changes the flash did
+abbrev pub hurt_of : {T : Type 0} → Result T DevErr → Hurt
+hurt_of (Ok x) = Whole
+hurt_of (Err FailedErr) = Failed
+hurt_of (Err PowerLost) = Cut

@@ -1,0 +1,14 @@
+use Rattle.ec_boot.proofs.ProtectLemmas.{protect-told, protect-wears}
+use Rattle.ec_boot.proofs.in_ro.InRoRunning.protect.Goals as goal
+
+pub returns-clause-told : goal.returns-clause-told
+returns-clause-told g c =
+    rw (← c.self.view_is)
+    (protect-told c.args.mask c.args.flags c.self.inside.ctl c.set-range.new.ctl c.self.inside.pin c.self.inside.live c.set-range.new.self c.set-range.result.0 c.set-range.result.1
+    c.self.invariant.hash c.set-range.ensures.grows.bad c.set-range.ensures.told)
+
+pub returns-clause-wear : goal.returns-clause-wear
+returns-clause-wear g c =
+    rw (← c.self.view_is)
+    (protect-wears c.args.mask c.args.flags c.self.inside.ctl c.set-range.new.ctl c.self.inside.pin c.self.inside.live c.set-range.new.self c.set-range.result.0 c.set-range.result.1
+    c.set-range.ensures.told c.set-range.ensures.none c.set-range.ensures.wear)

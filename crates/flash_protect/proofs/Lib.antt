@@ -1,0 +1,2 @@
+mod StoringLemmas
+mod SettingLemmas

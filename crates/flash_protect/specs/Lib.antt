@@ -1,0 +1,3 @@
+pub mod Spent
+pub mod Locking
+pub mod Setting

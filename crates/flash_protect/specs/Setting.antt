@@ -1,0 +1,89 @@
+-- What the calls of the protection read, store and lock.
+use Rattle.std.specs.Prelude.{◌≡◌, ℕ, suc, ◌+◌, ◌-◌, ◌≤◌, min, max, Bool, false, IsTrue, List, [], ◌∷◌, take, Option, Some, None, Result, Ok, Err}
+use Rattle.flash_dev.specs.Counts.{Rose, raised_by}
+use Rattle.flash_dev.specs.Device.{DeviceView}
+use Rattle.flash_dev.specs.declared.device.DevErr.{DevErr}
+use Rattle.flash_dev.specs.declared.device.DevErr.TheVariants.{Failed}
+use Rattle.ec_types.specs.declared.image.ImageCopy.TheVariants.{Ro}
+use Rattle.ec_model.specs.declared.live.HashView.TheVariants.{Idle}
+use Rattle.ec_model.specs.declared.live.ProtectView.{ProtectView}
+use Rattle.ec_model.specs.Ranges.{Range}
+use Rattle.ec_model.specs.Stored.{stored_length}
+use Rattle.ec_model.specs.Table.{Core}
+use Rattle.ec_model.specs.Operations.{Operation, StopsAt, operation_range, operated_all}
+use Rattle.ec_model.specs.ProtectRow.{protect_operations, protect_view, protected}
+use Rattle.flash_protect.specs.declared.protect.Protect.{Protect}
+
+-- the stored bits were looked at once; `unread` says that this failed
+pub record IsLookedAt (unread : Bool) (old new : DeviceView) : Type 0 where
+  pub kept : new.held ≡ old.held
+  pub extent : new.extent ≡ old.extent
+  pub faults : old.faults ≤ new.faults
+  pub failed : IsTrue unread → Rose old.faults new.faults
+  pub cuts : old.cuts ≤ new.cuts
+  pub wear : new.wear ≡ old.wear
+  pub fetched : new.fetched ≡ raised_by stored_length old.fetched
+
+-- a controller with this protection, pin and flash, of which nothing else is asked
+abbrev pub core_with : Protect → Bool → List ℕ → Core
+core_with protect pin flash =
+    record {
+      flash = flash;
+      pin = pin;
+      live = record {
+        copy = Ro;
+        flags = 0;
+        jumped = false;
+        ro_now = protect.ro_now;
+        all_now = protect.all_now;
+        pstate_bad = protect.bad;
+        jump_off = false;
+        hash = Idle;
+        erase = None;
+        saved = 0;
+      };
+      nonce = [];
+    }
+
+-- operations were done, or one of them did not end
+abbrev pub RanOn : {T : Type 0} → List Operation → List ℕ → List ℕ → Result T DevErr → Type 0
+RanOn operations before after (Ok x) = after ≡ operated_all operations before
+RanOn operations before after (Err error) = (place : ℕ) × StopsAt place operations before after
+
+-- the smallest range that has two others
+abbrev pub joined : Range → Range → Range
+joined first second =
+    let start : ℕ = min first.at second.at in
+    record { at = start; size = max (first.at + first.size) (second.at + second.size) - start }
+
+-- the smallest range that has these ranges and those of the operations
+abbrev pub joined_all : Range → List Operation → Range
+joined_all range [] = range
+joined_all range (operation ∷ operations) = joined_all (joined range (operation_range operation)) operations
+
+-- the place and size of the smallest range that has those of the operations; nothing where there is none
+abbrev pub covering : List Operation → Option (ℕ × ℕ)
+covering [] = None
+covering (operation ∷ operations) =
+    let range : Range = joined_all (operation_range operation) operations in
+    Some (range.at, range.size)
+
+-- FLASH_PROTECT was done: the bits are stored, the locks hold, and both are shown
+pub record IsSet (mask flags : ℕ) (pin : Bool) (old : Protect) (before : List ℕ) (new : Protect) (after : List ℕ) (range : Option (ℕ × ℕ)) (view : ProtectView) : Type 0 where
+  pub done : core_with new pin after ≡ protected mask flags (core_with old pin before)
+  pub shown : view ≡ protect_view (core_with new pin after)
+  pub begun : range ≡ covering (protect_operations (core_with old pin before) mask flags)
+
+-- an operation of FLASH_PROTECT did not end, and no lock was set
+pub record IsStoppedIn (mask flags : ℕ) (pin : Bool) (old : Protect) (before : List ℕ) (new : Protect) (after : List ℕ) (range : ℕ × ℕ) : Type 0 where
+  pub place : ℕ
+  pub stops : StopsAt place (protect_operations (core_with old pin before) mask flags) before after
+  pub begun : Some range ≡ covering (take (suc place) (protect_operations (core_with old pin before) mask flags))
+  pub same : new ≡ old
+
+-- what FLASH_PROTECT makes of the protection and the flash, the range of the operations that were begun, and its answer
+abbrev pub Sets : ℕ → ℕ → Bool → Protect → List ℕ → Protect → List ℕ → Option (ℕ × ℕ) → Result ProtectView DevErr → Type 0
+Sets mask flags pin old before new after range (Ok view) = IsSet mask flags pin old before new after range view
+-- the stored bits could not be read
+Sets mask flags pin old before new after None (Err error) = (error ≡ Failed) × (after ≡ before) × (new ≡ old)
+Sets mask flags pin old before new after (Some range) (Err error) = IsStoppedIn mask flags pin old before new after range

@@ -1,0 +1,71 @@
+// What is shown of the protection.
+ghost use Rattle.std.specs.Prelude.{◌≡◌, ◌≤◌, List, ℕ};
+ghost use Rattle.ec_types.specs.LittleEndian.{bit_if, has_bit};
+ghost use Rattle.ec_model.specs.Stored.{stored};
+ghost use Rattle.ec_model.specs.ProtectRow.{wished, wanted, same_bits, is_asked, protect_view};
+ghost use Rattle.flash_protect.specs.Setting.{core_with};
+
+use crate::Protect;
+use ec_model::{AtBoot, ProtectView};
+
+// The mask where the test is true.
+fn bit(mask: u32, test: bool) -> u32
+    ensures value { result ≡ bit_if mask test }
+    ensures small { result ≤ mask }
+{
+    if test { mask } else { 0 }
+}
+
+// A bit of the flags where the mask has it, and else as it was.
+fn wished(bit: u32, mask: u32, flags: u32, old: bool) -> bool
+    ensures { result ≡ wished bit mask flags old }
+{
+    if mask & bit != 0 {
+        flags & bit != 0
+    } else {
+        old
+    }
+}
+
+/// The bits that are wanted from the next boot on.
+pub fn wanted(mask: u32, flags: u32, old: AtBoot) -> AtBoot
+    ensures { result ≡ wanted mask flags old }
+{
+    AtBoot {
+        ro: wished(0x01, mask, flags, old.ro),
+        all: wished(0x40, mask, flags, old.all),
+    }
+}
+
+/// Whether two pairs of bits are the same.
+pub fn same(first: AtBoot, second: AtBoot) -> bool
+    ensures { result ≡ same_bits first second }
+{
+    first.ro == second.ro && first.all == second.all
+}
+
+/// Whether mask and flags both have a bit.
+pub fn asked(bit: u32, mask: u32, flags: u32) -> bool
+    ensures { result ≡ is_asked bit mask flags }
+{
+    mask & bit != 0 && flags & bit != 0
+}
+
+/// The reply of FLASH_PROTECT, where these bits are stored.
+pub fn shown(protect: &Protect, pin: bool, bits: AtBoot) -> ProtectView
+    ensures { (flash : List ℕ) → stored flash ≡ bits → result ≡ protect_view (core_with protect.now pin flash) }
+{
+    let can_lock = pin && bits.ro;
+    ProtectView {
+        flags: bit(0x01, bits.ro)
+            + bit(0x02, protect.ro_now)
+            + bit(0x04, protect.all_now)
+            + bit(0x08, pin)
+            + bit(0x20, protect.bad)
+            + bit(0x40, bits.all),
+        valid: 0x6F,
+        writable: bit(0x41, !protect.ro_now)
+            + bit(0x02, can_lock && !protect.ro_now)
+            + bit(0x04, can_lock && !protect.all_now),
+    }
+}
