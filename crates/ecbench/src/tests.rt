@@ -98,6 +98,14 @@ fn each_line_prints_its_text(rt: HostRuntime) -> Result<(), Fail> {
             b"ok\nEC has no power\nok\nok\nok\nEC says hello!\n".as_slice(),
         ),
         (
+            b"flashprotect enable\nflashwrite 0x7ffc 00000000\nreset pin\nflashprotect\nflashwrite 0x7ffc 00000000".as_slice(),
+            b"flags 0x00000009 valid 0x0000006f writable 0x00000047\nwrote 4 bytes\nok\nflags 0x0000000b valid 0x0000006f writable 0x00000004\nEC result 4 (ACCESS_DENIED)\n".as_slice(),
+        ),
+        (
+            b"flashprotect enable\nflashprotect now\nflashwrite 0x8000 00000000".as_slice(),
+            b"flags 0x00000009 valid 0x0000006f writable 0x00000047\nflags 0x0000000f valid 0x0000006f writable 0x00000000\nEC result 4 (ACCESS_DENIED)\n".as_slice(),
+        ),
+        (
             b"reset watchdog\nflashread 0x8000 2".as_slice(),
             b"ok\nffff\n".as_slice(),
         ),
@@ -211,6 +219,12 @@ fn a_failing_flash_is_told_by_the_controller(rt: HostRuntime) -> Result<(), Fail
         b"EC result 2 (ERROR)\nEC says hello!\n".as_slice(),
     );
     let _entries = plays(&rt, flash, script, (&[], &[]), failed)?;
+    let unread = MemFlash::new(rt.alloc(), &ERASED, &[1])?;
+    let locked = (
+        Exit::Done,
+        b"flags 0x0000002a valid 0x0000006f writable 0x00000000\n".as_slice(),
+    );
+    let _entries = plays(&rt, unread, b"flashprotect", (&[], &[]), locked)?;
     let dying = Dying {
         cuts: 0,
         fetched: 0,

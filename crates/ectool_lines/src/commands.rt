@@ -8,7 +8,9 @@ ghost use Rattle.ectool_lines.specs.Sending.{asked_of};
 
 use crate::Tool;
 use ec_packet::Packet;
-use ec_params::{CmdVersionsAsk1, FlashProtectAsk, FlashReadAsk, FlashWriteAsk, HelloAsk, RegionInfoAsk, TestAsk};
+use ec_params::{
+    CmdVersionsAsk1, FlashProtectAsk, FlashReadAsk, FlashWriteAsk, HelloAsk, RegionInfoAsk, TestAsk,
+};
 use flash_dev::Region;
 use std::cmp::min;
 

@@ -9,7 +9,9 @@ ghost use Rattle.ectool_lines.specs.declared.tool.Tool.TheVariants as tool;
 use crate::Tool;
 use crate::text::LineText;
 use ec_packet::Packet;
-use ec_params::{ChipSay, CmdVersionsSay, FlashInfoSay1, FlashProtectSay, ProtoInfoSay, RegionInfoSay};
+use ec_params::{
+    ChipSay, CmdVersionsSay, FlashInfoSay1, FlashProtectSay, ProtoInfoSay, RegionInfoSay,
+};
 
 impl LineText {
     /// Appends what the reply to a command of the line gives to its text.

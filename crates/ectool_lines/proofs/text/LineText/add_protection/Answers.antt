@@ -1,4 +1,4 @@
-use Rattle.std.proofs.Common.{◌≡◌, ap, ◌∙◌, sym, ◌++◌, ℕ, List, arith}
+use Rattle.std.proofs.Common.{ap, ◌∙◌, sym, ◌++◌, ℕ, List, arith}
 use Rattle.ectool_lines.proofs.ReplyLemmas.{protection-read}
 use Rattle.ectool_lines.proofs.text.LineText.add_protection.Goals as goal
 

@@ -1,4 +1,4 @@
-use Rattle.std.proofs.Common.{◌≡◌, ap, ◌∙◌, ◌++◌, ℕ, List, codes}
+use Rattle.std.proofs.Common.{ap, ◌∙◌, ◌++◌, ℕ, List, codes}
 use Rattle.ectool_lines.specs.Texts.{hex_text}
 use Rattle.ectool_lines.proofs.ReplyLemmas.{three-parts}
 use Rattle.ectool_lines.proofs.text.LineText.protection.Goals as goal
