@@ -102,7 +102,7 @@ locks-keep mask flags core =
     (λ can. record { pin = refl; locked = λ locked. rw locked refl; flash = λ locked. leaves-refl (length core.flash / 2) core.flash })
     (λ cannot. keeps-self core)
 
-protect-keeps : (core : Core) (mask flags : ℕ) → Keeps core (protected mask flags core)
+pub protect-keeps : (core : Core) (mask flags : ℕ) → Keeps core (protected mask flags core)
 protect-keeps core mask flags =
     let operations = protect_operations core mask flags in
     let stored_core = bits_stored mask flags core in

@@ -49,7 +49,7 @@ take-drop-take n p m xs inside =
     ap (λ (k : ℕ). take n (drop p (take k xs))) split ∙ ap (take n) (drop-take p (m - p) xs) ∙ take-take n (m - p) (drop p xs) (omega arith)
 
 -- the stored bits are among the bytes that are guarded
-stored-leaves : (old new : List ℕ) → 65536 ≤ length old → Leaves (length old / 2) old new → stored new ≡ stored old
+pub stored-leaves : (old new : List ℕ) → 65536 ≤ length old → Leaves (length old / 2) old new → stored new ≡ stored old
 stored-leaves old new large leaves =
     let place = length old / 2 - block_size in
     let inside : place + 8 ≤ length old / 2 = omega arith in
@@ -106,7 +106,7 @@ kept_outcome : (core : Core) (bus : BusAnswer) (lost : ℕ) (outcome : Outcome) 
 kept_outcome core bus lost (Answered after status body) held keeps = kept_keeps core after _ held keeps
 kept_outcome core bus lost Restarts held keeps = kept_boot core.flash core.pin (kind_of bus.state) Cold false held.known held.pin
 
-row_of-keeps : (core : Core) (limit : ℕ) (result : Result Admitted ℕ) → ((found : Admitted) → result ≡ Ok found → is_spelled found.command found.version found.body ≡ true) → KeepsOutcome core (row_of core limit result)
+pub row_of-keeps : (core : Core) (limit : ℕ) (result : Result Admitted ℕ) → ((found : Admitted) → result ≡ Ok found → is_spelled found.command found.version found.body ≡ true) → KeepsOutcome core (row_of core limit result)
 row_of-keeps core limit (Err status) spelled = keeps-self core
 row_of-keeps core limit (Ok found) spelled = row-keeps core limit found.command found.version found.body (spelled found refl)
 

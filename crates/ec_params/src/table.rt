@@ -10,7 +10,7 @@ pub fn known(command: u16) -> Option<u32>
     match command {
         0x0000 | 0x0001 | 0x0005 | 0x000A | 0x000B | 0x0011 => Some(1),
         0x0008 | 0x0010 | 0x0012 => Some(3),
-        0x0016 => Some(2),
+        0x0015 | 0x0016 => Some(2),
         _ => None,
     }
 }
