@@ -1,5 +1,5 @@
 -- What an answer keeps of guarded RO.
-use Rattle.std.proofs.Common.{◌≡◌, refl, ap, subst, ℕ, ◌/◌, Bool, true, List, length, inl, inr, Option, Some, None, Result, Ok, Err}
+use Rattle.std.proofs.Common.{◌≡◌, refl, subst, ℕ, true, List, length, inl, inr, Option, Some, None, Ok}
 use Rattle.std.specs.Prelude.{option_map, IfSome, ◌⊎◌, IsTrue}
 use Rattle.flash_dev.specs.Told.{Changes}
 use Rattle.ec_model.specs.declared.event.Hurt.{Hurt}
@@ -9,9 +9,7 @@ use Rattle.ec_model.specs.Bus.{fresh_bus}
 use Rattle.ec_model.specs.Packet.{RequestView}
 use Rattle.ec_model.specs.Commands.{is_spelled, line_of}
 use Rattle.ec_model.specs.Table.{Core}
-use Rattle.ec_model.specs.Answer.{Outcome, Answered, Restarts}
 use Rattle.ec_model.specs.Handle.{Admitted, admitted, row_of, reads_by, operations_by}
-use Rattle.ec_model.proofs.GuardLemmas.{AllAbove}
 use Rattle.ec_model.proofs.GuardRows.{Keeps, KeepsOutcome, keeps-self}
 use Rattle.ec_model.proofs.GuardStep.{row_of-keeps}
 use Rattle.ec_model.proofs.GuardWork.{spelled_by, operations_by-above}
@@ -19,7 +17,7 @@ use Rattle.ec_boot.specs.States.{RunView, OffView, core_at, told_core, Follows}
 use Rattle.ec_boot.specs.Ran.{IsStopped}
 use Rattle.ec_boot.specs.Guarding.{KeepsGuard, LowersGuard}
 use Rattle.ec_boot.proofs.KeepLemmas.{stopped-keeps, guard-told}
-use Rattle.command_table.specs.Leaves.{Leaves, FoundLeaves, HasReply}
+use Rattle.command_table.specs.Leaves.{FoundLeaves, HasReply}
 
 -- what is admitted is spelled
 spelled-of : (core : Core) (request : RequestView) (found : Admitted) → admitted core request ≡ Ok found → is_spelled found.command found.version found.body ≡ true

@@ -7,7 +7,7 @@ use Rattle.flash_dev.specs.Told.{Changes}
 use Rattle.flash_dev.specs.declared.device.DevErr.{DevErr}
 use Rattle.flash_dev.specs.declared.device.DevErr.TheVariants.{Failed as FailedErr, PowerLost}
 use Rattle.ec_model.specs.declared.event.Hurt.{Hurt}
-use Rattle.ec_model.specs.declared.event.Hurt.TheVariants.{Whole, Failed, Cut}
+use Rattle.ec_model.specs.declared.event.Hurt.TheVariants.{Whole, Failed}
 use Rattle.ec_model.specs.declared.live.ProtectView.{ProtectView}
 use Rattle.ec_model.specs.Table.{Core}
 use Rattle.ec_model.specs.Bodies.{flash_protect_ask}

@@ -1,6 +1,6 @@
 -- What each call keeps of guarded RO.
-use Rattle.std.proofs.Common.{◌≡◌, refl, sym, ap, ◌∙◌, subst, ℕ, suc, ◌+◌, ◌-◌, ◌/◌, ◌≤◌, Bool, true, false, ◌&&◌, ◌||◌, List, length, take, arith, inl, inr, Option, Some, None, Result, Ok, Err}
-use Rattle.std.specs.Prelude.{option_map, IfSome, IsTrue, IsFalse, ◌⊎◌}
+use Rattle.std.proofs.Common.{◌≡◌, refl, sym, ap, ◌∙◌, subst, ℕ, suc, ◌/◌, ◌≤◌, Bool, true, false, ◌&&◌, ◌||◌, List, length, take, arith, inl, inr, Option, Some, None, Result, Ok, Err}
+use Rattle.std.specs.Prelude.{option_map, IfSome, IsFalse}
 use Rattle.std.proofs.lemmas.List.{take-take}
 use Rattle.std.proofs.lemmas.Bool.Decides.{nat_tests}
 use Rattle.flash_dev.specs.Flash.{Torn}
@@ -19,16 +19,16 @@ use Rattle.ec_model.specs.Bus.{fresh_bus}
 use Rattle.ec_model.specs.Table.{Core}
 use Rattle.ec_model.specs.Hash.{touched}
 use Rattle.ec_model.specs.Boot.{booted}
-use Rattle.ec_model.specs.Operations.{Operation, touched_by}
-use Rattle.ec_model.specs.ProtectRow.{protect_operations, protected}
-use Rattle.ec_model.proofs.GuardLemmas.{Leaves, AllAbove, leaves-refl, leaves-stopped}
+use Rattle.ec_model.specs.Operations.{Operation}
+use Rattle.ec_model.specs.ProtectRow.{protect_operations}
+use Rattle.ec_model.proofs.GuardLemmas.{Leaves, AllAbove, leaves-stopped}
 use Rattle.ec_model.proofs.GuardRows.{Keeps, keeps-self, same-touched, same-touched_by, protect-keeps}
 use Rattle.ec_model.proofs.GuardStep.{size_bound, stored-leaves}
 use Rattle.ec_model.proofs.GuardWork.{protect-above}
 use Rattle.ec_model.proofs.RunLaws.{guarded_bytes-leaves}
 use Rattle.ec_boot.specs.States.{RunView, OffView, core_at, told_core, Follows, IsDone, IsOperated, is_lock_blocked}
 use Rattle.ec_boot.specs.Ran.{IsStopped, IsProtected}
-use Rattle.ec_boot.specs.Guarding.{IsGuarded, KeepsGuard, RaisesGuard, LowersGuard}
+use Rattle.ec_boot.specs.Guarding.{KeepsGuard, RaisesGuard, LowersGuard}
 
 -- the guard stays where the pin, the lock and the guarded bytes do
 pub keeps-guard : (before after : Core) → is_flash_size (length before.flash) ≡ true → Keeps before after → KeepsGuard before after
@@ -78,7 +78,7 @@ done-keeps at n before after flash some torn same free =
       flash = λ locked.
           let half : ℕ = length before.flash / 2 in
           let above : half ≤ at = free-above (length before.flash) at n before.live.all_now some
-              (subst (λ (ro : Bool). ((ro && overlaps (record { at = at; size = n }) (wp_ro_range (length before.flash))) || before.live.all_now) ≡ false) locked free) in
+          (subst (λ (ro : Bool). ((ro && overlaps (record { at = at; size = n }) (wp_ro_range (length before.flash))) || before.live.all_now) ≡ false) locked free) in
           subst (λ (xs : List ℕ). Leaves half before.flash xs) (sym (ap (λ (c : Core). c.flash) same ∙ was.flash))
           (record { bytes = sym (take-take half at flash above) ∙ ap (take half) torn.before ∙ take-take half at before.flash above; size = torn.same_length });
     }

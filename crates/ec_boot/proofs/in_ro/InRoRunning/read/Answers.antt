@@ -1,4 +1,4 @@
-use Rattle.std.proofs.Common.{Bool, List, [], ap}
+use Rattle.std.proofs.Common.{Bool, List, ap}
 use Rattle.ec_boot.specs.States.{RunView}
 use Rattle.ec_boot.proofs.KeepLemmas.{read-guard}
 use Rattle.ec_boot.proofs.OperatedLemmas.{run_of}
