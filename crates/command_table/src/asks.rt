@@ -5,8 +5,8 @@ ghost use Rattle.command_table.specs.declared.asks.Ask.TheVariants.{Question as 
 ghost use Rattle.command_table.specs.Asks.{named, IsAskOf};
 
 use ec_params::{
-    CmdVersionsAsk0, CmdVersionsAsk1, FlashReadAsk, FlashWriteAskRef, HelloAsk, RegionInfoAsk,
-    TestAsk,
+    CmdVersionsAsk0, CmdVersionsAsk1, FlashProtectAsk, FlashReadAsk, FlashWriteAskRef, HelloAsk,
+    RegionInfoAsk, TestAsk,
 };
 
 /// The commands that only ask, and read no byte of the flash.
@@ -29,6 +29,7 @@ pub enum Ask<'a> {
     Question(Question),
     FlashRead(FlashReadAsk),
     FlashWrite(FlashWriteAskRef<'a>),
+    FlashProtect(FlashProtectAsk),
 }
 
 // A question whose body is empty.
@@ -69,6 +70,7 @@ pub fn ask_of<'a>(command: u16, version: u8, body: &'a [u8]) -> Option<Ask<'a>>
         0x0010 => alone(body, Question::FlashInfo),
         0x0011 => Some(Ask::FlashRead(FlashReadAsk::read(body)?)),
         0x0012 => Some(Ask::FlashWrite(FlashWriteAskRef::read(body)?)),
+        0x0015 => Some(Ask::FlashProtect(FlashProtectAsk::read(body)?)),
         0x0016 => Some(Ask::Question(Question::RegionInfo(RegionInfoAsk::read(body)?))),
         _ => None,
     }

@@ -128,7 +128,8 @@ begun-some mask flags pin old new f g range (Err error) set none =
 stays : (n before now : ℕ) → now ≡ before → RisesAtMost n before now
 stays n before now same = record { least = omega (arith, same); most = omega (arith, same) }
 
-abbrev core_or : Core → Option Core → Core
+-- the core that is told, or another
+abbrev pub core_or : Core → Option Core → Core
 core_or other None = other
 core_or other (Some core) = core
 

@@ -1,5 +1,5 @@
 -- A controller without its bus, as contracts see it.
-use Rattle.std.specs.Prelude.{◌≡◌, ℕ, Bool, ◌&&◌, ◌||◌, List, IsTrue, IsFalse, Option, None, option_map, Result, Ok, Err}
+use Rattle.std.specs.Prelude.{◌≡◌, ℕ, Bool, ◌&&◌, ◌||◌, List, IsTrue, IsFalse, Option, Some, None, option_map, ⊤, Result, Ok, Err}
 use Rattle.flash_dev.specs.Device.{DeviceView, IsChange}
 use Rattle.flash_dev.specs.declared.device.DevErr.{DevErr}
 use Rattle.flash_ctl.specs.Locks.{CtlView}
@@ -17,9 +17,11 @@ use Rattle.ec_model.specs.Hash.{touched}
 pub record OffView : Type 0 where
   pub device : DeviceView
 
--- a controller that is on, without its bus: its device and pin, what lasts until the next reset, and a busy hash's nonce
+-- a controller that is on, without its bus: its device with its locks, its pin, what lasts until the next reset, and a busy
+-- hash's nonce
 pub record RunView : Type 0 where
   pub device : DeviceView
+  pub locks : List Bool
   pub pin : Bool
   pub live : Live
   pub nonce : List ℕ
@@ -31,6 +33,13 @@ core_at run flash = record { flash = flash; pin = run.pin; live = run.live; nonc
 -- what is on, where the flash tells its bytes
 abbrev pub told_core : RunView → Option Core
 told_core run = option_map (core_at run) run.device.held
+
+-- where the one is told so is the other, and they are so related
+abbrev pub Follows : {X Y : Type 0} → (X → Y → Type 0) → Option X → Option Y → Type 0
+Follows related None None = ⊤
+Follows related None (Some y) = ⊥
+Follows related (Some x) None = ⊥
+Follows related (Some x) (Some y) = related x y
 
 -- whether the locks of the live state cover some byte of a range
 abbrev pub is_lock_blocked : ℕ → Live → Range → Bool
@@ -47,6 +56,8 @@ pub record IsRunning (ctl : CtlView) (live : Live) : Type 0 where
 
 -- what holds of each controller that is on, whichever image runs
 pub record IsLiveValid (run : RunView) : Type 0 where
+  -- the locked blocks are all, those that write protection guards, or none, as the flags say
+  pub locks : run.locks ≡ locks_of run.device.extent run.live.ro_now run.live.all_now
   -- all blocks are locked only with the RO blocks
   pub all_with_ro : IsTrue run.live.all_now → IsTrue run.live.ro_now
   -- RW runs only after a jump

@@ -4,7 +4,9 @@ ghost use Rattle.ec_model.specs.declared.live.HashView.TheVariants.{Idle};
 ghost use Rattle.ec_model.specs.Ranges.{is_flash_size};
 ghost use Rattle.ec_model.specs.Boot.{booted};
 ghost use Rattle.flash_protect.specs.Setting.{IsLookedAt};
-ghost use Rattle.ec_boot.specs.States.{told_core, IsLiveValid};
+ghost use Rattle.flash_dev.specs.Told.{Changes};
+ghost use Rattle.ec_boot.specs.States.{told_core, Follows, IsLiveValid};
+ghost use Rattle.ec_boot.specs.Guarding.{KeepsGuard, LowersGuard};
 
 use crate::{Off, Running};
 use ec_model::{HashView, Live, ProtectView};
@@ -27,7 +29,7 @@ impl<F: FlashDev> Model for InRo<F> {
 
     ghost Value = { RunView };
 
-    ghost view = { λ on. record { device = on.ctl.device; pin = on.pin; live = on.live; nonce = [] } };
+    ghost view = { λ on. record { device = on.ctl.device; locks = on.ctl.locks; pin = on.pin; live = on.live; nonce = [] } };
 
     ghost invariant = { λ on. IsRunning on.ctl on.live };
 }
@@ -59,6 +61,7 @@ impl<F: FlashDev> InRo<F> {
 
     /// A reset: the controller boots RO again, and keeps its pin alone.
     pub fn reset(self, cause: ResetCause) -> InRo<F>
+        ensures guard { Changes KeepsGuard (told_core self) (told_core result) }
         ensures looked { IsLookedAt result.live.pstate_bad self.device result.device }
         ensures booted { told_core result ≡ option_map (λ flash. booted flash self.pin cause result.live.pstate_bad) self.device.held }
         ensures pin { result.pin ≡ self.pin }
@@ -69,7 +72,8 @@ impl<F: FlashDev> InRo<F> {
 
     /// Power is gone: only the flash is left.
     pub fn cut(self) -> Off<F>
-        ensures { result.device ≡ self.device }
+        ensures device { result.device ≡ self.device }
+        ensures guard { Follows LowersGuard (told_core self) result.device.held }
     {
         let InRo {
             ctl,
@@ -111,6 +115,8 @@ impl<F: FlashDev> Running for InRo<F> {
     }
 
     fn program(&mut self, at: u32, bytes: &[u8]) -> Result<(), CtlErr> {
+        // What is known of the size: the guarded bytes are the lower half.
+        let _size = self.ctl.geometry();
         self.ctl.program(at, bytes)
     }
 
@@ -120,6 +126,7 @@ impl<F: FlashDev> Running for InRo<F> {
             all_now: self.live.all_now,
             bad: self.live.pstate_bad,
         };
+        let _size = self.ctl.geometry();
         // No command starts a hash yet, so that none is over the range of the operations.
         let (_range, result) = protect.set(&mut self.ctl, self.pin, mask, flags);
         self.live.ro_now = protect.ro_now;

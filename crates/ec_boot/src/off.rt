@@ -3,7 +3,8 @@ ghost use Rattle.std.specs.Prelude.{◌≡◌, option_map};
 ghost use Rattle.ec_types.specs.declared.reset.ResetCause.TheVariants.{PowerOn};
 ghost use Rattle.ec_model.specs.Boot.{booted};
 ghost use Rattle.flash_protect.specs.Setting.{IsLookedAt};
-ghost use Rattle.ec_boot.specs.States.{told_core};
+ghost use Rattle.ec_boot.specs.States.{told_core, Follows};
+ghost use Rattle.ec_boot.specs.Guarding.{RaisesGuard};
 
 use crate::InRo;
 use ec_types::ResetCause;
@@ -41,6 +42,7 @@ impl<F: FlashDev> Off<F> {
 
     /// Power comes: the controller boots RO, with the pin as given.
     pub fn power_on(self, pin: bool) -> InRo<F>
+        ensures guard { Follows (RaisesGuard pin) self.device.held (told_core result) }
         ensures looked { IsLookedAt result.live.pstate_bad self.device result.device }
         ensures booted { told_core result ≡ option_map (λ flash. booted flash pin PowerOn result.live.pstate_bad) self.device.held }
         ensures pin { result.pin ≡ pin }

@@ -8,12 +8,14 @@ ghost use Rattle.flash_dev.specs.Told.{Changes};
 ghost use Rattle.flash_protect.specs.Spent.{Costs, hurt_of};
 ghost use Rattle.ec_boot.specs.States.{RunView, told_core, IsLiveValid, IsOperated};
 ghost use Rattle.ec_boot.specs.Ran.{IsProtected, WearsAtMost};
+ghost use Rattle.ec_boot.specs.Guarding.{KeepsGuard};
 
 use ec_model::{Live, ProtectView};
 use flash_ctl::CtlErr;
 use flash_dev::{DevErr, Failed, Geometry};
 
-/// The calls of a controller that is on.
+/// The calls of a controller that is on. None but one that takes the pin away leaves guarded RO unguarded or changes a byte
+/// of it, whatever fails or is torn inside.
 pub trait Running {
     /// What contracts see of the controller.
     ghost run: { Self → RunView };
@@ -29,7 +31,8 @@ pub trait Running {
 
     /// The pin changes. Nothing else does.
     fn set_pin(&mut self, on: bool)
-        ensures { run self.new ≡ record (run self.old) { pin = on } };
+        ensures pin { run self.new ≡ record (run self.old) { pin = on } }
+        ensures guard { IsTrue on → Changes KeepsGuard (told_core (run self.old)) (told_core (run self.new)) };
 
     /// The size of the flash.
     fn geometry(&self) -> Geometry
@@ -41,7 +44,8 @@ pub trait Running {
     fn read(&mut self, at: u32, out: &mut [u8]) -> Result<(), Failed>
         requires { at + length out.old ≤ (run self.old).device.extent }
         ensures read { IsRead at out.old out.new (run self.old).device (run self.new).device result }
-        ensures rest { run self.new ≡ record (run self.old) { device = (run self.new).device } };
+        ensures rest { run self.new ≡ record (run self.old) { device = (run self.new).device } }
+        ensures guard { Changes KeepsGuard (told_core (run self.old)) (told_core (run self.new)) };
 
     /// Programs at most 64 bytes. A range with a locked block is refused, and then the device is not called; where it
     /// is called, a hash over the range is dropped, also if the call fails or power is lost.
@@ -51,7 +55,8 @@ pub trait Running {
         requires some { 4 ≤ length bytes.now }
         requires short { length bytes.now ≤ 64 }
         requires inside { at + length bytes.now ≤ (run self.old).device.extent }
-        ensures { IsOperated at (length bytes.now) (programmed at bytes.now) (run self.old) (run self.new) result };
+        ensures change { IsOperated at (length bytes.now) (programmed at bytes.now) (run self.old) (run self.new) result }
+        ensures guard { Changes KeepsGuard (told_core (run self.old)) (told_core (run self.new)) };
 
     /// FLASH_PROTECT: the stored bits are changed, where others are wanted and RO is not locked, and then the locks that
     /// are asked for are set, if the pin is asserted and RO is locked from the next boot on. A hash over the range of its
@@ -61,5 +66,6 @@ pub trait Running {
         ensures told { Changes (λ before after. IsProtected mask flags before after result) (told_core (run self.old)) (told_core (run self.new)) }
         ensures pin { (run self.new).pin ≡ (run self.old).pin }
         ensures wear { WearsAtMost (λ core. protect_operations core mask flags) (run self.old) (run self.new).device.wear }
-        ensures spent { Costs (hurt_of result) 8 (run self.old).device (run self.new).device };
+        ensures spent { Costs (hurt_of result) 8 (run self.old).device (run self.new).device }
+        ensures guard { Changes KeepsGuard (told_core (run self.old)) (told_core (run self.new)) };
 }

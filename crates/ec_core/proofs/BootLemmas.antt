@@ -16,8 +16,7 @@ use Rattle.ec_model.specs.Boot.{booted}
 use Rattle.ec_model.specs.Work.{Boot, work_off, lost_answer, operations_of, After}
 use Rattle.ec_model.specs.Step.{WorkLeaves, OffLeaves}
 use Rattle.flash_protect.specs.Setting.{IsLookedAt}
-use Rattle.ec_boot.specs.States.{RunView, OffView, core_at, told_core}
-use Rattle.command_table.specs.After.{Follows}
+use Rattle.ec_boot.specs.States.{RunView, OffView, core_at, told_core, Follows}
 use Rattle.ec_core.specs.Held.{up_table, down_table, IsSpent, EventTold, answer_by, boot_hurt}
 use Rattle.ec_core.specs.Task.{IsTakenUp, IsTakenDown, IsStepped}
 use Rattle.ec_core.specs.declared.held.Held.{Held}

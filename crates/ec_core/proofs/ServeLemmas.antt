@@ -21,12 +21,12 @@ use Rattle.ec_model.specs.Step.{WorkLeaves, after_unread, outcome_reads, error_r
 use Rattle.ec_packet.specs.declared.request.Request.{Request}
 use Rattle.ec_packet.specs.Read.{request_view, IsReadAs}
 use Rattle.ec_wire.specs.Dues.{asked_of}
-use Rattle.ec_boot.specs.States.{RunView, OffView, core_at, told_core}
+use Rattle.ec_boot.specs.States.{RunView, OffView, core_at, told_core, Follows}
 use Rattle.flash_protect.specs.Spent.{Costs, RisesAtMost}
 use Rattle.command_table.specs.declared.table.After.{After}
 use Rattle.ec_boot.specs.Ran.{IsStopped}
 use Rattle.command_table.specs.Leaves.{FoundLeaves, HasReply}
-use Rattle.command_table.specs.After.{Follows, IsAnswered, IsLostIn, StaysOn, GoesOff}
+use Rattle.command_table.specs.After.{IsAnswered, IsLostIn, StaysOn, GoesOff}
 use Rattle.ec_core.specs.View.{WearsBy}
 use Rattle.ec_core.specs.Held.{awake_of, up_table, down_table, answer_by, IsSpent}
 use Rattle.ec_core.specs.Task.{IsTakenUp, IsStepped}

@@ -8,4 +8,4 @@ returns-in-Err g c =
 
 pub returns-in-Ok : goal.returns-in-Ok
 returns-in-Ok g c =
-    packet-answered {F = g.row.F.Denot} (packet_limit c.args.kind) c.args.bytes.now c.in-Ok.request c.answer.new.reply.hurt c.answer.new.reply.status c.answer.new.reply.body c.args.on c.answer.result c.in-Ok.ensures.framed c.answer.ensures
+    packet-answered {F = g.row.F.Denot} (packet_limit c.args.kind) c.args.bytes.now c.in-Ok.request c.answer.new.reply.hurt c.answer.new.reply.status c.answer.new.reply.body c.args.on c.answer.result c.in-Ok.ensures.framed c.answer.ensures.row
