@@ -5,7 +5,8 @@ use Rattle.line_reader.specs.declared.reader.Next.{Next}
 use Rattle.line_reader.specs.declared.reader.Next.TheVariants.{Line, Last}
 use Rattle.line_reader.specs.Finding.{Finds}
 use Rattle.ecbench.specs.Serving.{ServesLine, exit_at}
-use Rattle.ecbench.proofs.ServedLemmas.{served-nothing, served-more, serves-failed, serves-exit, serves-last, serves-stopped, at-any, ended-line}
+use Rattle.ecbench.proofs.ServedLemmas.{served-nothing, serves-failed, serves-exit, at-any, ended-line}
+use Rattle.ecbench.proofs.ServedLines.{served-more, serves-last, serves-stopped}
 use Rattle.line_reader.proofs.Takings.{Takes-nothing}
 use Rattle.ecbench.proofs.serving.serve.Goals as goal
 
