@@ -1,5 +1,5 @@
 // What a controller that is on can be asked and told, whichever image runs.
-ghost use Rattle.std.specs.Prelude.{◌≡◌, ◌≤◌, ◌+◌, ◌*◌, ◌%◌, List, ℕ, length, Some, None, IfSome, IsTrue};
+ghost use Rattle.std.specs.Prelude.{◌≡◌, ◌≤◌, ◌+◌, ◌*◌, ◌%◌, length, Some, None, IfSome, IsTrue};
 ghost use Rattle.flash_dev.specs.Flash.{block_size, erased, programmed};
 ghost use Rattle.flash_dev.specs.Device.{IsRead};
 ghost use Rattle.ec_model.specs.Ranges.{is_flash_size};
@@ -7,9 +7,9 @@ ghost use Rattle.ec_model.specs.Table.{IsErasable};
 ghost use Rattle.ec_model.specs.ProtectRow.{protect_operations};
 ghost use Rattle.flash_dev.specs.Told.{Changes};
 ghost use Rattle.flash_protect.specs.Spent.{Costs, RisesAtMost, hurt_of};
-ghost use Rattle.ec_boot.specs.States.{RunView, core_at, told_core, IsLiveValid, IsOperated};
+ghost use Rattle.ec_boot.specs.States.{RunView, told_core, IsLiveValid, IsOperated};
 ghost use Rattle.ec_boot.specs.Ran.{IsProtected, WearsAtMost};
-ghost use Rattle.ec_boot.specs.Ticked.{IsTicked, job_ticked, tick_operations};
+ghost use Rattle.ec_boot.specs.Ticked.{IsTicked, LeavesTicked, tick_operations};
 ghost use Rattle.ec_boot.specs.Guarding.{KeepsGuard};
 
 use ec_model::{Live, ProtectView};
@@ -96,8 +96,7 @@ pub trait Running {
     /// block, and 0 is saved; or with one that failed or was cut, and then 2 is saved. A hash over the block is dropped.
     fn tick(&mut self) -> Result<(), DevErr>
         ensures told { Changes (λ before after. IsTicked before.live.erase before after result) (told_core (run self.old)) (told_core (run self.new)) }
-        // The rest of the state, whether the flash tells its bytes or not.
-        ensures rest { (flash : List ℕ) → core_at (run self.new) flash ≡ job_ticked (run self.old).live.erase result (core_at (run self.old) flash) }
+        ensures rest { LeavesTicked (run self.old).live.erase (run self.old) (run self.new) result }
         ensures pin { (run self.new).pin ≡ (run self.old).pin }
         ensures wear { RisesAtMost (length (tick_operations (run self.old).live.erase)) (run self.old).device.wear (run self.new).device.wear }
         ensures spent { Costs (hurt_of result) 0 (run self.old).device (run self.new).device }
