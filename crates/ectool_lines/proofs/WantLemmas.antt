@@ -14,6 +14,7 @@ use Rattle.ec_model.specs.Answer.{Outcome, Answered, Restarts, done}
 use Rattle.ec_model.specs.FlashRows.{unless_refused, asked_range, flash_read_row, flash_write_row, written, is_whole_units}
 use Rattle.ec_model.specs.Handle.{Admitted, row_of, admitted_from, handled}
 use Rattle.ec_model.proofs.GuardSteps.{if_cases}
+use Rattle.ec_model.proofs.ValidRows.{IsCoreValid}
 use Rattle.host_runs.proofs.Spelled.{framing-spelled}
 use Rattle.ectool_lines.specs.declared.tool.Tool.{Tool}
 use Rattle.ectool_lines.specs.declared.tool.Tool.TheVariants.{Hello, ChipInfo, CmdVersions, ProtoInfo, FlashInfo, RegionInfo, FlashRead, FlashWrite, FlashProtect, Test}
@@ -122,27 +123,27 @@ protect-wanted : (core : Core) (mask flags : ℕ) → HasWanted 12 (row_of core 
 protect-wanted core mask flags = checked-wanted 12 core true _ (omega arith, λ none. omega arith)
 
 -- each command of a line
-pub command-wanted : (tool : Tool) (k : ℕ) (core : Core) → IsInRange tool → HasWanted (command_of 256 tool k).want (handled core 256 (packet_of (command_of 256 tool k)))
-command-wanted Hello k core within = spelled-wanted 4 core 0x01 0 (hello_ask 0xA0B0C0D0) (omega arith) (omega arith) (hello-wanted core)
-command-wanted ChipInfo k core within = spelled-wanted 96 core 0x05 0 [] (omega arith) (omega arith) (checked-wanted 96 core true _ (omega arith, λ none. refl))
-command-wanted (CmdVersions number) k core within =
+pub command-wanted : (tool : Tool) (k : ℕ) (core : Core) → IsCoreValid core → IsInRange tool → HasWanted (command_of 256 tool k).want (handled core 256 (packet_of (command_of 256 tool k)))
+command-wanted Hello k core valid within = spelled-wanted 4 core 0x01 0 (hello_ask 0xA0B0C0D0) (omega arith) (omega arith) (hello-wanted core)
+command-wanted ChipInfo k core valid within = spelled-wanted 96 core 0x05 0 [] (omega arith) (omega arith) (checked-wanted 96 core true _ (omega arith, λ none. refl))
+command-wanted (CmdVersions number) k core valid within =
     let body = cmd_versions_ask1 number in
     spelled-wanted 4 core 0x08 1 body (omega arith) (omega arith) (checked-wanted 4 core true _ (mask-wanted core (known (u16_at 0 body))))
-command-wanted ProtoInfo k core within = spelled-wanted 12 core 0x0B 0 [] (omega arith) (omega arith) (checked-wanted 12 core true _ (omega arith, λ none. refl))
-command-wanted FlashInfo k core within = spelled-wanted 24 core 0x10 1 [] (omega arith) (omega arith) (checked-wanted 24 core true _ (omega arith, λ none. omega arith))
-command-wanted (RegionInfo region) k core within =
+command-wanted ProtoInfo k core valid within = spelled-wanted 12 core 0x0B 0 [] (omega arith) (omega arith) (checked-wanted 12 core true _ (omega arith, λ none. refl))
+command-wanted FlashInfo k core valid within = spelled-wanted 24 core 0x10 1 [] (omega arith) (omega arith) (checked-wanted 24 core true _ (omega arith, λ none. omega arith))
+command-wanted (RegionInfo region) k core valid within =
     let body = region_info_ask (region_number region) in
     spelled-wanted 8 core 0x16 1 body (omega arith) (omega arith) (checked-wanted 8 core true _ (range-wanted core (region_range (u32_at 0 body) (length core.flash))))
-command-wanted (FlashRead at size) k core within =
+command-wanted (FlashRead at size) k core valid within =
     let part = min 248 (size - k * 248) in
     let place = (at + k * 248) % 2 ^ 32 in
     spelled-wanted part core 0x11 0 (flash_read_ask place part) (omega arith) (omega arith) (read-wanted core place part (omega arith))
-command-wanted (FlashWrite at bytes) k core within =
+command-wanted (FlashWrite at bytes) k core valid within =
     let body = (command_of 256 (FlashWrite at bytes) k).body in
     spelled-wanted 0 core 0x12 1 body (omega arith) (omega (arith, command-short (FlashWrite at bytes) k within)) (write-wanted core body)
-command-wanted (FlashProtect mask flags) k core within =
+command-wanted (FlashProtect mask flags) k core valid within =
     spelled-wanted 12 core 0x15 1 (flash_protect_ask mask flags) (omega arith) (omega arith) (protect-wanted core mask flags)
-command-wanted (Test ec_result ret_len bytes) k core within =
+command-wanted (Test ec_result ret_len bytes) k core valid within =
     let body = test_ask ec_result ret_len (zero_padded 32 bytes) in
     let whole = padded-length 32 bytes within.2 in
     spelled-wanted ret_len core 0x0A 0 body (omega arith) (omega (arith, command-short (Test ec_result ret_len bytes) k within))
