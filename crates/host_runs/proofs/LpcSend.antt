@@ -100,7 +100,7 @@ regroup3 a b c x = simp (append_assoc, append-nil)
 -- the core and the window of a valid table
 pub core-valid : (core : Core) (window : List ℕ) (status outcome : ℕ) → Valid (table_of core (lpc window status outcome)) → IsCoreValid core
 core-valid core window status outcome valid =
-    record { size = valid.size; all_with_ro = valid.power.all_with_ro; jumped = valid.power.jumped; erase = valid.power.erase; hash = valid.power.hash }
+    record { size = valid.size; all_with_ro = valid.power.all_with_ro; jumped = valid.power.jumped; erase = valid.power.erase; hash = valid.power.hash; saved = valid.power.saved }
 
 -- the window of a valid table has 256 bytes
 pub window-whole : (core : Core) (window : List ℕ) (status outcome : ℕ) → Valid (table_of core (lpc window status outcome)) → length window ≡ 256
@@ -217,7 +217,7 @@ pub record BusFacts (table : Table) (awake : Awake) : Type 0 where
 pub bus-facts : (table : Table) (awake : Awake) → Valid table → table.power ≡ On awake → BusFacts table awake
 bus-facts table awake valid on =
     let awake_valid = rw on at valid.power in
-    record { kind = awake_valid.bus_kind; valid = awake_valid.bus; core = record { size = valid.size; all_with_ro = awake_valid.all_with_ro; jumped = awake_valid.jumped; erase = awake_valid.erase; hash = awake_valid.hash } }
+    record { kind = awake_valid.bus_kind; valid = awake_valid.bus; core = record { size = valid.size; all_with_ro = awake_valid.all_with_ro; jumped = awake_valid.jumped; erase = awake_valid.erase; hash = awake_valid.hash; saved = awake_valid.saved } }
 
 -- a settled table is valid
 pub settled-valid : (table : Table) → Valid table → Valid (settled table)
