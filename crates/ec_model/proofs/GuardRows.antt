@@ -1,5 +1,5 @@
 -- Every row keeps the pin, and, while RO is locked, the lock and what is guarded.
-use Rattle.std.proofs.Common.{◌≡◌, refl, ◌∙◌, subst, ℕ, ◌+◌, ◌/◌, true, not, ◌&&◌, ◌||◌, ◌==◌, nat_lt, if◌then◌else◌, List, [], ◌∷◌, length, take, drop, Option, Some, None, slice_index}
+use Rattle.std.proofs.Common.{◌≡◌, refl, ◌∙◌, subst, ℕ, ◌+◌, ◌/◌, true, not, ◌||◌, ◌==◌, nat_lt, if◌then◌else◌, List, [], ◌∷◌, length, take, drop, Option, Some, None, slice_index}
 use Rattle.std.specs.Prelude.{is_none}
 use Rattle.std.specs.Bool.{⊤}
 use Rattle.ec_types.specs.LittleEndian.{u16_at, u32_at}
@@ -16,7 +16,7 @@ use Rattle.ec_model.specs.InfoRows.{mask_told, range_told, test_row}
 use Rattle.ec_model.specs.FlashRows.{unless_refused, asked_range, read_refusal, write_refusal, written, flash_write_row, erase_refusal, flash_erase_row}
 use Rattle.ec_model.specs.ProtectRow.{protect_operations, bits_stored, locked_live, locks_set, can_lock, protected}
 use Rattle.ec_model.specs.HashRow.{vboot_hash_row, hash_start_row, hash_asked, hash_range}
-use Rattle.ec_model.specs.Jump.{jumped, reads_head, has_vector}
+use Rattle.ec_model.specs.Jump.{same_copy, is_denied, has_vector}
 use Rattle.ec_model.specs.RebootRow.{jump_row, reboot_row}
 use Rattle.ec_model.specs.Handle.{row}
 use Rattle.ec_model.proofs.GuardLemmas.{Leaves, leaves-refl, leaves-trans, leaves-operated, leaves-operated_all}
@@ -137,7 +137,9 @@ hash-keeps core body =
 
 jump-keeps : (core : Core) (target : ImageCopy) → KeepsOutcome core (jump_row target core)
 jump-keeps core target =
-    if_cases (Keeps core) (reads_head target core && has_vector core.flash target) (jumped target core) core (λ jumps. keeps-live core _ [] refl) (λ stays. keeps-self core)
+    if_cases (KeepsOutcome core) (same_copy target core.live.copy) _ _ (λ runs. keeps-self core)
+    (λ other. if_cases (KeepsOutcome core) (is_denied core target) _ _ (λ denied. keeps-self core)
+    (λ granted. if_cases (KeepsOutcome core) (not (has_vector core.flash target)) _ _ (λ outside. keeps-self core) (λ jumps. keeps-live core _ [] refl)))
 
 reboot-keeps : (core : Core) (body : List ℕ) → KeepsOutcome core (reboot_row core body)
 reboot-keeps core body =

@@ -5,6 +5,7 @@ use Rattle.std.specs.Prelude.{is_none, take_while}
 use Rattle.std.specs.Bool.{⊤}
 use Rattle.std.proofs.lemmas.Bool.Decides.{leb_tells}
 use Rattle.ec_types.specs.LittleEndian.{u16_at, u32_at, u32_bytes}
+use Rattle.ec_types.specs.declared.image.ImageCopy.{ImageCopy}
 use Rattle.ec_types.specs.declared.image.ImageCopy.TheVariants.{Ro, Rw}
 use Rattle.ec_model.specs.declared.live.HashView.{HashView}
 use Rattle.ec_model.specs.declared.live.HashView.TheVariants.{Idle, Busy, Done}
@@ -15,7 +16,8 @@ use Rattle.ec_model.specs.Answer.{Outcome, Answered, Restarts, told}
 use Rattle.ec_model.specs.InfoRows.{mask_told, range_told, test_row, version_text, zero_padded, is_shown, raw_version, version_row, copy_number}
 use Rattle.ec_model.specs.FlashRows.{unless_refused, asked_range, read_refusal, flash_read_row, write_refusal, erase_refusal}
 use Rattle.ec_model.specs.HashRow.{vboot_hash_row, hash_start_row, hash_asked, hash_range, hash_bytes}
-use Rattle.ec_model.specs.RebootRow.{reboot_row}
+use Rattle.ec_model.specs.Jump.{same_copy, is_denied, has_vector}
+use Rattle.ec_model.specs.RebootRow.{jump_row, reboot_row}
 use Rattle.ec_model.specs.Handle.{row}
 use Rattle.ec_model.proofs.GuardSteps.{if_cases}
 
@@ -100,13 +102,19 @@ hash-short core body hashable =
     (λ not_get. if_cases IsShort (slice_index body 0 == 1) _ _ (λ abort. omega arith)
     (λ not_abort. if_cases IsShort (slice_index body 0 == 2) _ _ (λ start. start-short core body) (λ other. omega arith)))
 
+jump-short : (core : Core) (target : ImageCopy) → IsShort (jump_row target core)
+jump-short core target =
+    if_cases IsShort (same_copy target core.live.copy) _ _ (λ runs. omega arith)
+    (λ other. if_cases IsShort (is_denied core target) _ _ (λ denied. omega arith)
+    (λ granted. if_cases IsShort (not (has_vector core.flash target)) _ _ (λ outside. omega arith) (λ jumps. omega arith)))
+
 reboot-short : (core : Core) (body : List ℕ) → IsShort (reboot_row core body)
 reboot-short core body =
     let cmd = slice_index body 0 in
     if_cases IsShort (not (slice_index body 1 == 0)) _ _ (λ wrong. omega arith)
     (λ right. if_cases IsShort (cmd == 0) _ _ (λ cancel. omega arith)
-    (λ n0. if_cases IsShort (cmd == 1) _ _ (λ ro. omega arith)
-    (λ n1. if_cases IsShort (cmd == 2) _ _ (λ rw_. omega arith)
+    (λ n0. if_cases IsShort (cmd == 1) _ _ (λ ro. jump-short core Ro)
+    (λ n1. if_cases IsShort (cmd == 2) _ _ (λ rw_. jump-short core Rw)
     (λ n2. if_cases IsShort (cmd == 4) _ _ (λ cold. tt)
     (λ n4. if_cases IsShort (cmd == 5) _ _ (λ disable. omega arith) (λ other. omega arith))))))
 

@@ -22,7 +22,7 @@ use Rattle.ec_model.specs.FlashRows.{unless_refused, asked_range, read_refusal, 
 use Rattle.ec_model.specs.ProtectRow.{protect_operations, storing_operations, same_bits, wanted, bits_stored, locked_live, locks_set, can_lock, protected, is_asked}
 use Rattle.ec_model.specs.Stored.{stored, ro_now_flag, all_now_flag}
 use Rattle.ec_model.specs.HashRow.{vboot_hash_row, hash_start_row, hash_asked, hash_range, first_of_region}
-use Rattle.ec_model.specs.Jump.{jumped, reads_head, has_vector, kept_hash}
+use Rattle.ec_model.specs.Jump.{same_copy, is_denied, has_vector, jumped, kept_hash}
 use Rattle.ec_model.specs.RebootRow.{jump_row, reboot_row}
 use Rattle.ec_model.specs.Handle.{row}
 use Rattle.ec_model.proofs.GuardLemmas.{AllAbove, leaves-operated, leaves-operated_all}
@@ -189,7 +189,9 @@ protect-valid core mask flags valid free =
 
 jump-valid : (core : Core) (target : ImageCopy) → IsCoreValid core → core.live.erase ≡ None → ValidOutcome (jump_row target core)
 jump-valid core target valid free =
-    if_cases IsCoreValid (reads_head target core && has_vector core.flash target) (jumped target core) core
+    if_cases ValidOutcome (same_copy target core.live.copy) _ _ (λ runs. valid)
+    (λ other. if_cases ValidOutcome (is_denied core target) _ _ (λ denied. valid)
+    (λ granted. if_cases ValidOutcome (not (has_vector core.flash target)) _ _ (λ outside. valid)
     (λ jumps. record {
       size = valid.size;
       all_with_ro = valid.all_with_ro;
@@ -197,8 +199,7 @@ jump-valid core target valid free =
       erase = subst (λ (job : Option EraseJob). IsErasable (length core.flash) (jumped target core).live job) (sym free) tt;
       hash = kept_hashable core.live.hash core.nonce valid.hash;
       saved = valid.saved;
-    })
-    (λ stays. valid) where
+    }))) where
       kept_hashable : (hash : HashView) (nonce : List ℕ) → IsHashable (length core.flash) hash nonce → IsHashable (length core.flash) (kept_hash hash) []
       kept_hashable Idle nonce hashable = refl
       kept_hashable (Busy at size left) nonce hashable = refl

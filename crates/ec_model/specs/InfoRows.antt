@@ -1,4 +1,4 @@
--- The commands that only ask.
+-- The commands that tell what is so.
 use Rattle.std.specs.Prelude.{ℕ, ◌+◌, ◌-◌, ◌%◌, ◌^◌, Bool, not, ◌&&◌, ◌==◌, nat_lt, nat_le, min, if◌then◌else◌, List, [], ◌++◌, length, take, drop, replicate, take_while, slice_index, Option, Some, None, is_some, codes}
 use Rattle.ec_types.specs.LittleEndian.{u16_at, u32_at, bit_if}
 use Rattle.ec_types.specs.declared.image.ImageCopy.{ImageCopy}

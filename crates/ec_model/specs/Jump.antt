@@ -1,6 +1,5 @@
--- A jump from one image to the other. To the image that runs it does nothing; under lock all but the first one are denied; it
--- fails where the target's vector lies outside its region; and else the target runs (`jump_status`, `after_jump`).
-use Rattle.std.specs.Prelude.{ℕ, ◌+◌, Bool, true, false, not, ◌&&◌, nat_lt, nat_le, if◌then◌else◌, List, [], length, bit_or}
+-- A jump from one image to the other.
+use Rattle.std.specs.Prelude.{ℕ, ◌+◌, Bool, true, false, not, ◌&&◌, nat_lt, nat_le, List, [], length, bit_or}
 use Rattle.ec_types.specs.LittleEndian.{u32_at}
 use Rattle.ec_types.specs.declared.image.ImageCopy.{ImageCopy}
 use Rattle.ec_types.specs.declared.image.ImageCopy.TheVariants.{Ro, Rw}
@@ -37,7 +36,11 @@ vector_in range vector = nat_le range.at vector && nat_lt vector (range.at + ran
 abbrev pub has_vector : List ℕ → ImageCopy → Bool
 has_vector flash copy = vector_in (copy_range copy (length flash)) (u32_at 4 (part (copy_range copy (length flash)) flash))
 
--- the flag of a jump
+-- whether a jump looks at the target's head, behind the first two tests
+abbrev pub reads_head : ImageCopy → Core → Bool
+reads_head target core = not (same_copy target core.live.copy) && not (is_denied core target)
+
+-- the flag SYSJUMP: the image runs by a jump
 abbrev pub sysjump : ℕ
 sysjump = 0x400
 
@@ -46,27 +49,10 @@ abbrev pub kept_hash : HashView → HashView
 kept_hash (Done at size digest) = Done at size digest
 kept_hash other = Idle
 
--- the live state behind a jump
-abbrev pub jumped_live : Live → ImageCopy → Live
-jumped_live live target =
-    record live { copy = target; flags = bit_or live.flags sysjump; jumped = true; hash = kept_hash live.hash }
-
 -- the core behind a jump
 abbrev pub jumped : ImageCopy → Core → Core
-jumped target core = record core { live = jumped_live core.live target; nonce = [] }
-
--- the status of a jump
-abbrev pub jump_status : ImageCopy → Core → ℕ
-jump_status target core =
-    if same_copy target core.live.copy then 0 else
-    if is_denied core target then 4 else
-    if not (has_vector core.flash target) then 2 else
-    0
-
--- whether a jump looks at the target's head
-abbrev pub reads_head : ImageCopy → Core → Bool
-reads_head target core = not (same_copy target core.live.copy) && not (is_denied core target)
-
--- the core after a jump was asked for
-abbrev pub after_jump : ImageCopy → Core → Core
-after_jump target core = if reads_head target core && has_vector core.flash target then jumped target core else core
+jumped target core =
+    record core {
+      live = record core.live { copy = target; flags = bit_or core.live.flags sysjump; jumped = true; hash = kept_hash core.live.hash };
+      nonce = [];
+    }

@@ -1,14 +1,18 @@
 -- The command that jumps and resets.
-use Rattle.std.specs.Prelude.{ℕ, Bool, true, false, not, ◌==◌, if◌then◌else◌, List, [], slice_index, Option, Some, None}
+use Rattle.std.specs.Prelude.{ℕ, Bool, true, false, not, ◌==◌, if◌then◌else◌, List, slice_index, Option, Some, None}
 use Rattle.ec_types.specs.declared.image.ImageCopy.{ImageCopy}
 use Rattle.ec_types.specs.declared.image.ImageCopy.TheVariants.{Ro, Rw}
 use Rattle.ec_model.specs.Table.{Core}
-use Rattle.ec_model.specs.Jump.{jump_status, after_jump, reads_head}
-use Rattle.ec_model.specs.Answer.{Outcome, Answered, Restarts, refused, done}
+use Rattle.ec_model.specs.Jump.{same_copy, is_denied, has_vector, reads_head, jumped}
+use Rattle.ec_model.specs.Answer.{Outcome, Restarts, refused, done}
 
--- a jump is asked for
+-- A jump is asked for. To the image that runs it does nothing; it may be denied, or meet a vector outside the region.
 abbrev pub jump_row : ImageCopy → Core → Outcome
-jump_row target core = Answered (after_jump target core) (jump_status target core) []
+jump_row target core =
+    if same_copy target core.live.copy then done core else
+    if is_denied core target then refused core 4 else
+    if not (has_vector core.flash target) then refused core 2 else
+    done (jumped target core)
 
 -- REBOOT_EC: cmd is at 0, and the flags at 1
 abbrev pub reboot_row : Core → List ℕ → Outcome
