@@ -1,5 +1,5 @@
 -- A controller without its bus, as contracts see it.
-use Rattle.std.specs.Prelude.{◌≡◌, ℕ, Bool, ◌&&◌, ◌||◌, List, IsTrue, IsFalse, Option, Some, None, option_map, ⊤, Result, Ok, Err}
+use Rattle.std.specs.Prelude.{◌≡◌, ℕ, ◌^◌, ◌<◌, Bool, ◌&&◌, ◌||◌, List, IsTrue, IsFalse, Option, Some, None, option_map, ⊤, Result, Ok, Err}
 use Rattle.flash_dev.specs.Device.{DeviceView, IsChange}
 use Rattle.flash_dev.specs.declared.device.DevErr.{DevErr}
 use Rattle.flash_ctl.specs.Locks.{CtlView}
@@ -45,14 +45,14 @@ Follows related (Some x) (Some y) = related x y
 abbrev pub is_lock_blocked : ℕ → Live → Range → Bool
 is_lock_blocked size live range = (live.ro_now && overlaps range (wp_ro_range size)) || live.all_now
 
--- what holds of each controller that runs RO: no command starts a hash or an erase
+-- what holds of each controller that runs RO: no command starts a hash
 pub record IsRunning (ctl : CtlView) (live : Live) : Type 0 where
   pub size : IsTrue (is_flash_size ctl.device.extent)
   pub locks : ctl.locks ≡ locks_of ctl.device.extent live.ro_now live.all_now
   pub all_with_ro : IsTrue live.all_now → IsTrue live.ro_now
   pub copy : live.copy ≡ Ro
   pub hash : live.hash ≡ Idle
-  pub erase : live.erase ≡ None
+  pub erase : IsErasable ctl.device.extent live live.erase
 
 -- what holds of each controller that is on, whichever image runs
 pub record IsLiveValid (run : RunView) : Type 0 where
@@ -64,6 +64,8 @@ pub record IsLiveValid (run : RunView) : Type 0 where
   pub jumped : run.live.copy ≡ Rw → IsTrue run.live.jumped
   pub erase : IsErasable run.device.extent run.live run.live.erase
   pub hash : IsHashable run.device.extent run.live.hash run.nonce
+  -- a reply can tell the saved status
+  pub saved : run.live.saved < 2 ^ 16
 
 -- a change of a range by the device, on a controller that is on: a hash over the range is dropped
 pub record IsDone {T : Type 0} (at size : ℕ) (made : List ℕ → List ℕ) (old new : RunView) (result : Result T DevErr) : Type 0 where

@@ -1,5 +1,5 @@
 // On, with the RO image running.
-ghost use Rattle.std.specs.Prelude.{◌≡◌, None, option_map, IsTrue};
+ghost use Rattle.std.specs.Prelude.{◌≡◌, option_map, IsTrue};
 ghost use Rattle.ec_model.specs.declared.live.HashView.TheVariants.{Idle};
 ghost use Rattle.ec_model.specs.Ranges.{is_flash_size};
 ghost use Rattle.ec_model.specs.Boot.{booted};
@@ -8,13 +8,15 @@ ghost use Rattle.flash_dev.specs.Told.{Changes};
 ghost use Rattle.ec_boot.specs.States.{told_core, Follows, IsLiveValid};
 ghost use Rattle.ec_boot.specs.Guarding.{KeepsGuard, LowersGuard};
 
+use crate::erase::{left, saved};
 use crate::{Off, Running};
-use ec_model::{HashView, Live, ProtectView};
+use ec_model::{EraseJob, HashView, Live, ProtectView};
 use ec_types::{ImageCopy, ResetCause, flags_of};
 use flash_ctl::{Ctl, CtlErr};
 use flash_dev::{DevErr, Failed, FlashDev, Geometry};
 use flash_protect::Protect;
 use std::marker::Model;
+use std::mem;
 
 /// A controller that is on and runs its RO image.
 pub struct InRo<F: FlashDev> {
@@ -91,10 +93,11 @@ impl<F: FlashDev> Running for InRo<F> {
     fn live(&self) -> Live
         ensures live { result ≡ self.now.live }
         ensures valid { IsLiveValid self.now }
-        // No command starts a hash or an erase.
+        // No command starts a hash.
         ensures hash { self.now.live.hash ≡ Idle }
-        ensures erase { self.now.live.erase ≡ None }
     {
+        // A saved status is 16 bits.
+        let _saved = self.live.saved;
         self.live
     }
 
@@ -120,6 +123,11 @@ impl<F: FlashDev> Running for InRo<F> {
         self.ctl.program(at, bytes)
     }
 
+    fn erase_block(&mut self, block: u32) -> Result<(), CtlErr> {
+        let _size = self.ctl.geometry();
+        self.ctl.erase_block(block)
+    }
+
     fn protect(&mut self, mask: u32, flags: u32) -> Result<ProtectView, DevErr> {
         let mut protect = Protect {
             ro_now: self.live.ro_now,
@@ -132,5 +140,38 @@ impl<F: FlashDev> Running for InRo<F> {
         self.live.ro_now = protect.ro_now;
         self.live.all_now = protect.all_now;
         result
+    }
+
+    fn start_erase(&mut self, first: u32, count: u32) {
+        self.live.erase = Some(EraseJob {
+            next: first,
+            left: count,
+        });
+        self.live.saved = 9;
+    }
+
+    fn take_saved(&mut self) -> u16 {
+        mem::replace(&mut self.live.saved, 9)
+    }
+
+    fn tick(&mut self) -> Result<(), DevErr> {
+        let _size = self.ctl.geometry();
+        match self.live.erase {
+            None => Ok(()),
+            Some(job) => match self.ctl.erase_block(job.next) {
+                Ok(()) => {
+                    self.live.erase = left(job);
+                    self.live.saved = saved(job, self.live.saved);
+                    Ok(())
+                }
+                Err(CtlErr::Device(error)) => {
+                    self.live.erase = None;
+                    self.live.saved = 2;
+                    Err(error)
+                }
+                // A pending erase has no locked block.
+                Err(CtlErr::Locked) => unreachable!(),
+            },
+        }
     }
 }

@@ -1,13 +1,15 @@
 // What a controller that is on can be asked and told, whichever image runs.
-ghost use Rattle.std.specs.Prelude.{◌≡◌, ◌≤◌, ◌+◌, ◌%◌, length, None, IfSome, IsTrue};
-ghost use Rattle.flash_dev.specs.Flash.{programmed};
+ghost use Rattle.std.specs.Prelude.{◌≡◌, ◌≤◌, ◌+◌, ◌*◌, ◌%◌, length, Some, None, IfSome, IsTrue};
+ghost use Rattle.flash_dev.specs.Flash.{block_size, erased, programmed};
 ghost use Rattle.flash_dev.specs.Device.{IsRead};
 ghost use Rattle.ec_model.specs.Ranges.{is_flash_size};
+ghost use Rattle.ec_model.specs.Table.{IsErasable};
 ghost use Rattle.ec_model.specs.ProtectRow.{protect_operations};
 ghost use Rattle.flash_dev.specs.Told.{Changes};
-ghost use Rattle.flash_protect.specs.Spent.{Costs, hurt_of};
+ghost use Rattle.flash_protect.specs.Spent.{Costs, RisesAtMost, hurt_of};
 ghost use Rattle.ec_boot.specs.States.{RunView, told_core, IsLiveValid, IsOperated};
 ghost use Rattle.ec_boot.specs.Ran.{IsProtected, WearsAtMost};
+ghost use Rattle.ec_boot.specs.Ticked.{IsTicked, LeavesTicked, tick_operations};
 ghost use Rattle.ec_boot.specs.Guarding.{KeepsGuard};
 
 use ec_model::{Live, ProtectView};
@@ -58,6 +60,13 @@ pub trait Running {
         ensures change { IsOperated at (length bytes.now) (programmed at bytes.now) (run self.old) (run self.new) result }
         ensures guard { Changes KeepsGuard (told_core (run self.old)) (told_core (run self.new)) };
 
+    /// Makes each byte of a block 0xFF. A locked block is refused, and then the device is not called; where it is called,
+    /// a hash over the block is dropped, also if the call fails or power is lost.
+    fn erase_block(&mut self, block: u32) -> Result<(), CtlErr>
+        requires { block * block_size + block_size ≤ (run self.old).device.extent }
+        ensures change { IsOperated (block * block_size) block_size (erased block) (run self.old) (run self.new) result }
+        ensures guard { Changes KeepsGuard (told_core (run self.old)) (told_core (run self.new)) };
+
     /// FLASH_PROTECT: the stored bits are changed, where others are wanted and RO is not locked, and then the locks that
     /// are asked for are set, if the pin is asserted and RO is locked from the next boot on. A hash over the range of its
     /// operations is dropped.
@@ -67,5 +76,29 @@ pub trait Running {
         ensures pin { (run self.new).pin ≡ (run self.old).pin }
         ensures wear { WearsAtMost (λ core. protect_operations core mask flags) (run self.old) (run self.new).device.wear }
         ensures spent { Costs (hurt_of result) 8 (run self.old).device (run self.new).device }
+        ensures guard { Changes KeepsGuard (told_core (run self.old)) (told_core (run self.new)) };
+
+    /// An erase of some blocks in a row begins, from the block `first` on: each tick that serves no request erases the next
+    /// one. No status is saved any more.
+    fn start_erase(&mut self, first: u32, count: u32)
+        requires idle { (run self.old).live.erase ≡ None }
+        requires erasable { IsErasable (run self.old).device.extent (run self.old).live (Some (record { next = first; left = count })) }
+        ensures started { run self.new ≡ record (run self.old) { live = record (run self.old).live { erase = Some (record { next = first; left = count }); saved = 9 } } }
+        ensures guard { Changes KeepsGuard (told_core (run self.old)) (told_core (run self.new)) };
+
+    /// The status that is saved. It is given once: 9 is saved from then on, which says that there is none.
+    fn take_saved(&mut self) -> u16
+        ensures saved { result ≡ (run self.old).live.saved }
+        ensures taken { run self.new ≡ record (run self.old) { live = record (run self.old).live { saved = 9 } } }
+        ensures guard { Changes KeepsGuard (told_core (run self.old)) (told_core (run self.new)) };
+
+    /// A tick that serves no request: the next block of a pending erase, and else nothing. An erase ends with its last
+    /// block, and 0 is saved; or with one that failed or was cut, and then 2 is saved. A hash over the block is dropped.
+    fn tick(&mut self) -> Result<(), DevErr>
+        ensures told { Changes (λ before after. IsTicked before.live.erase before after result) (told_core (run self.old)) (told_core (run self.new)) }
+        ensures rest { LeavesTicked (run self.old).live.erase (run self.old) (run self.new) result }
+        ensures pin { (run self.new).pin ≡ (run self.old).pin }
+        ensures wear { RisesAtMost (length (tick_operations (run self.old).live.erase)) (run self.old).device.wear (run self.new).device.wear }
+        ensures spent { Costs (hurt_of result) 0 (run self.old).device (run self.new).device }
         ensures guard { Changes KeepsGuard (told_core (run self.old)) (told_core (run self.new)) };
 }

@@ -1,5 +1,5 @@
 -- Every event keeps a valid table valid, whatever fails or tears in it.
-use Rattle.std.proofs.Common.{◌≡◌, refl, sym, ap, ◌∙◌, subst, ℕ, suc, ◌+◌, ◌-◌, ◌≤◌, ◌<◌, Bool, true, false, ◌&&◌, ◌||◌, inl, inr, nat_le, List, [], length, take, arith, Option, Some, None}
+use Rattle.std.proofs.Common.{◌≡◌, refl, sym, ap, ◌∙◌, subst, ℕ, suc, ◌+◌, ◌-◌, ◌^◌, ◌≤◌, ◌<◌, Bool, true, false, ◌&&◌, ◌||◌, inl, inr, nat_le, List, [], length, take, arith, Option, Some, None}
 use Rattle.std.specs.Bool.{⊤}
 use Rattle.std.proofs.lemmas.Bool.Decides.{leb_tells}
 use Rattle.std.proofs.lemmas.Bool.{leb-false}
@@ -66,9 +66,9 @@ left-erasable size live job valid =
     (omega (arith, many), omega (arith, many, valid.1), free_within size live (blocks_range (job.next + 1) (job.left - 1)) (blocks_range job.next job.left) (omega arith) (omega (arith, many)) valid.2))
 
 -- the erase is no concern of the hash
-with-job-valid : (core : Core) (job : Option EraseJob) (saved : ℕ) → IsCoreValid core → IsErasable (length core.flash) core.live job → IsCoreValid (with_job job saved core)
-with-job-valid core job saved valid erasable =
-    record { size = valid.size; all_with_ro = valid.all_with_ro; jumped = valid.jumped; erase = same job erasable; hash = valid.hash } where
+with-job-valid : (core : Core) (job : Option EraseJob) (saved : ℕ) → IsCoreValid core → IsErasable (length core.flash) core.live job → saved < 2 ^ 16 → IsCoreValid (with_job job saved core)
+with-job-valid core job saved valid erasable small =
+    record { size = valid.size; all_with_ro = valid.all_with_ro; jumped = valid.jumped; erase = same job erasable; hash = valid.hash; saved = small } where
       same : (job : Option EraseJob) → IsErasable (length core.flash) core.live job → IsErasable (length core.flash) (with_job job saved core).live job
       same None erasable = tt
       same (Some other) erasable = erasable
@@ -90,6 +90,7 @@ erased-valid core job valid erasable =
     with-job-valid flashed (job_left job) (saved_after job core.live.saved) flash_valid
     (touched-erasable (length (erased job.next core.flash)) range core (job_left job)
     (subst (λ (n : ℕ). IsErasable n core.live (job_left job)) (sym leaves.size) (left-erasable (length core.flash) core.live job erasable)))
+    (if_cases (λ (saved : ℕ). saved < 2 ^ 16) (nat_le job.left 1) 0 core.live.saved (λ last. omega arith) (λ more. valid.saved))
 
 ticked-valid : (core : Core) (hash : HashView) → IsCoreValid core → core.live.hash ≡ hash → IsCoreValid (hash_ticked hash core)
 ticked-valid core Idle valid same = valid
@@ -144,7 +145,7 @@ off-valid flash pin kind size = record { size = size; power = tt }
 
 -- another pin
 pinned-valid : (core : Core) (on : Bool) → IsCoreValid core → IsCoreValid (record core { pin = on })
-pinned-valid core on valid = record { size = valid.size; all_with_ro = valid.all_with_ro; jumped = valid.jumped; erase = valid.erase; hash = valid.hash }
+pinned-valid core on valid = record { size = valid.size; all_with_ro = valid.all_with_ro; jumped = valid.jumped; erase = valid.erase; hash = valid.hash; saved = valid.saved }
 
 worked-valid : (core : Core) (bus : BusAnswer) (lost : ℕ) (work : Work) → IsCoreValid core → WorkBus bus.state work → WorkJob core work → Valid (worked core bus lost work).table
 worked-valid core bus lost Rest valid bus_valid job = valid_table core bus.state valid bus_valid
@@ -186,7 +187,7 @@ work_operations-inside core other valid job = tt
 unfinished-valid : (core : Core) (flash : List ℕ) (operations : List Operation) (k : ℕ) (bus : BusAnswer) (work : Work) → IsCoreValid core → length flash ≡ length core.flash → WorkBus bus.state work → Valid (unfinished (failed_core core flash operations k) bus work).table
 unfinished-valid core flash operations k bus (Serve request) valid same bus_valid = valid_table _ _ (failed-valid core flash operations k valid same) (error-valid bus.state bus_valid)
 unfinished-valid core flash operations k bus other valid same bus_valid =
-    valid_table _ bus.state (with-job-valid (failed_core core flash operations k) None 2 (failed-valid core flash operations k valid same) tt) bus_valid
+    valid_table _ bus.state (with-job-valid (failed_core core flash operations k) None 2 (failed-valid core flash operations k valid same) tt (omega arith)) bus_valid
 
 work-valid : (hurt : Hurt) (core : Core) (bus : BusAnswer) (lost : ℕ) (work : Work) (after : After) → IsCoreValid core → WorkBus bus.state work → WorkJob core work → WorkLeaves hurt core bus lost work after → Valid after.table
 work-valid Whole core bus lost work after valid bus_valid job leaves = rw leaves (worked-valid core bus lost work valid bus_valid job)
@@ -259,7 +260,7 @@ off-event-valid Cut old event after valid leaves = absurd leaves
 
 -- a valid controller that is on
 pub core-valid : (table : Table) (awake : Awake) → is_flash_size (length table.flash) ≡ true → IsAwakeValid (length table.flash) table.kind awake → IsCoreValid (core_of table awake)
-core-valid table awake size valid = record { size = size; all_with_ro = valid.all_with_ro; jumped = valid.jumped; erase = valid.erase; hash = valid.hash }
+core-valid table awake size valid = record { size = size; all_with_ro = valid.all_with_ro; jumped = valid.jumped; erase = valid.erase; hash = valid.hash; saved = valid.saved }
 
 event-valid : (hurt : Hurt) (old : Table) (event : Event) (power : Power) (after : After) → Valid old → IsPowerValid (length old.flash) old.kind power → EventLeavesBy hurt old event power after → Valid after.table
 event-valid hurt old event Off after valid power_valid leaves = off-event-valid hurt old event after valid leaves

@@ -1,5 +1,5 @@
 -- Every row keeps a valid core valid.
-use Rattle.std.proofs.Common.{◌≡◌, refl, sym, ap, ◌∙◌, subst, ℕ, ◌+◌, ◌*◌, ◌/◌, ◌%◌, ◌≤◌, Bool, true, false, not, ◌&&◌, ◌||◌, ◌==◌, nat_lt, nat_le, if◌then◌else◌, List, [], ◌∷◌, length, take, drop, arith, Option, Some, None, slice_index, length-take}
+use Rattle.std.proofs.Common.{◌≡◌, refl, sym, ap, ◌∙◌, subst, ℕ, ◌+◌, ◌*◌, ◌/◌, ◌%◌, ◌^◌, ◌≤◌, ◌<◌, Bool, true, false, not, ◌&&◌, ◌||◌, ◌==◌, nat_lt, nat_le, if◌then◌else◌, List, [], ◌∷◌, length, take, drop, arith, Option, Some, None, slice_index, length-take}
 use Rattle.std.specs.Prelude.{is_none}
 use Rattle.std.specs.Bool.{⊤}
 use Rattle.std.proofs.lemmas.Bool.Decides.{leb_tells, eqb_tells}
@@ -36,6 +36,7 @@ pub record IsCoreValid (core : Core) : Type 0 where
   pub jumped : core.live.copy ≡ Rw → core.live.jumped ≡ true
   pub erase : IsErasable (length core.flash) core.live core.live.erase
   pub hash : IsHashable (length core.flash) core.live.hash core.nonce
+  pub saved : core.live.saved < 2 ^ 16
 
 -- what is answered leaves a valid core
 abbrev pub ValidOutcome : Outcome → Type 0
@@ -45,7 +46,7 @@ ValidOutcome Restarts = ⊤
 -- a valid core with another hash
 pub with-hash-valid : (core : Core) (hash : HashView) (nonce : List ℕ) → IsCoreValid core → IsHashable (length core.flash) hash nonce → IsCoreValid (with_hash hash nonce core)
 with-hash-valid core hash nonce valid hashable =
-    record { size = valid.size; all_with_ro = valid.all_with_ro; jumped = valid.jumped; erase = erasable core.live.erase valid.erase; hash = hashable } where
+    record { size = valid.size; all_with_ro = valid.all_with_ro; jumped = valid.jumped; erase = erasable core.live.erase valid.erase; hash = hashable; saved = valid.saved } where
       erasable : (job : Option EraseJob) → IsErasable (length core.flash) core.live job → IsErasable (length core.flash) (record core.live { hash = hash }) job
       erasable None free = tt
       erasable (Some job) free = free
@@ -68,6 +69,7 @@ with-flash-valid core flash same valid =
       jumped = valid.jumped;
       erase = subst (λ (n : ℕ). IsErasable n core.live core.live.erase) (sym same) valid.erase;
       hash = subst (λ (n : ℕ). IsHashable n core.live.hash core.nonce) (sym same) valid.hash;
+      saved = valid.saved;
     }
 
 -- a touch leaves the flash
@@ -133,6 +135,7 @@ erase-valid core body valid =
       jumped = valid.jumped;
       erase = (omega (arith, some, count), omega (arith, place, count, inside), whole_blocks (length core.flash) core.live range place count tests.1);
       hash = valid.hash;
+      saved = omega arith;
     })
 
 -- a valid core with other marks of the live state, but for the erase
@@ -163,6 +166,7 @@ locks-valid mask flags core valid free =
       jumped = valid.jumped;
       erase = subst (λ (job : Option EraseJob). IsErasable (length core.flash) (locked_live mask flags core.live) job) (sym free) tt;
       hash = valid.hash;
+      saved = valid.saved;
     })
     (λ cannot. valid)
 
@@ -192,6 +196,7 @@ jump-valid core target valid free =
       jumped = λ rw_. refl;
       erase = subst (λ (job : Option EraseJob). IsErasable (length core.flash) (jumped target core).live job) (sym free) tt;
       hash = kept_hashable core.live.hash core.nonce valid.hash;
+      saved = valid.saved;
     })
     (λ stays. valid) where
       kept_hashable : (hash : HashView) (nonce : List ℕ) → IsHashable (length core.flash) hash nonce → IsHashable (length core.flash) (kept_hash hash) []
@@ -260,14 +265,15 @@ hash-valid core body valid =
     (λ not_abort. if_cases ValidOutcome (slice_index body 0 == 2) _ _ (λ start. start-valid core body valid) (λ other. valid)))
 
 -- a change of marks that no rule reads
-marked-valid : (core : Core) (live : Live) → IsCoreValid core → live.copy ≡ core.live.copy → live.jumped ≡ core.live.jumped → live.ro_now ≡ core.live.ro_now → live.all_now ≡ core.live.all_now → live.hash ≡ core.live.hash → IsErasable (length core.flash) live live.erase → IsCoreValid (record core { live = live })
-marked-valid core live valid copy jumped ro all hash erase =
+marked-valid : (core : Core) (live : Live) → IsCoreValid core → live.copy ≡ core.live.copy → live.jumped ≡ core.live.jumped → live.ro_now ≡ core.live.ro_now → live.all_now ≡ core.live.all_now → live.hash ≡ core.live.hash → IsErasable (length core.flash) live live.erase → live.saved < 2 ^ 16 → IsCoreValid (record core { live = live })
+marked-valid core live valid copy jumped ro all hash erase saved =
     record {
       size = valid.size;
       all_with_ro = λ now. ro ∙ valid.all_with_ro (sym all ∙ now);
       jumped = λ runs. jumped ∙ valid.jumped (sym copy ∙ runs);
       erase = erase;
       hash = rw hash valid.hash;
+      saved = saved;
     }
 
 reboot-valid : (core : Core) (body : List ℕ) → IsCoreValid core → core.live.erase ≡ None → ValidOutcome (reboot_row core body)
@@ -280,7 +286,7 @@ reboot-valid core body valid free =
     (λ n1. if_cases ValidOutcome (cmd == 2) _ _ (λ rw_. jump-valid core Rw valid free)
     (λ n2. if_cases ValidOutcome (cmd == 4) _ _ (λ cold. tt)
     (λ n4. if_cases ValidOutcome (cmd == 5) _ _
-    (λ disable. marked-valid core _ valid refl refl refl refl refl (no_erase (record core.live { jump_off = true }))) (λ other. valid))))))
+    (λ disable. marked-valid core _ valid refl refl refl refl refl (no_erase (record core.live { jump_off = true })) valid.saved) (λ other. valid))))))
 
 -- saving another status
 saved-erasable : (size : ℕ) (live : Live) (saved : ℕ) (job : Option EraseJob) → IsErasable size live job → IsErasable size (record live { saved = saved }) job
@@ -288,7 +294,7 @@ saved-erasable size live saved None free = tt
 saved-erasable size live saved (Some job) free = free
 
 pub resend-valid : (core : Core) → IsCoreValid core → IsCoreValid (record core { live = record core.live { saved = 9 } })
-resend-valid core valid = marked-valid core _ valid refl refl refl refl refl (saved-erasable (length core.flash) core.live 9 core.live.erase valid.erase)
+resend-valid core valid = marked-valid core _ valid refl refl refl refl refl (saved-erasable (length core.flash) core.live 9 core.live.erase valid.erase) (omega arith)
 
 -- each row that is asked by a spelled body, while no erase is pending or by a command that is answered then
 pub row-valid : (core : Core) (limit : ℕ) (command : Command) (version : ℕ) (body : List ℕ) → IsCoreValid core → is_spelled command version body ≡ true → core.live.erase ≡ None → ValidOutcome (row core limit command version body)

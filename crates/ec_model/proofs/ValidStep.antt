@@ -25,7 +25,7 @@ use Rattle.ec_model.proofs.ShortRows.{IsShort, row-short}
 -- a valid core with a valid bus is a valid table
 pub valid_table : (core : Core) (bus : BusState) → IsCoreValid core → IsBusValid bus → Valid (table_of core bus)
 valid_table core bus valid bus_valid =
-    record { size = valid.size; power = record { all_with_ro = valid.all_with_ro; jumped = valid.jumped; erase = valid.erase; hash = valid.hash; bus_kind = refl; bus = bus_valid } }
+    record { size = valid.size; power = record { all_with_ro = valid.all_with_ro; jumped = valid.jumped; erase = valid.erase; hash = valid.hash; saved = valid.saved; bus_kind = refl; bus = bus_valid } }
 
 -- a fresh bus is valid
 fresh-valid : (kind : BusKind) → IsBusValid (fresh_bus kind)
@@ -42,6 +42,7 @@ booted-valid flash pin cause unread size =
       jumped = λ runs. cc;
       erase = tt;
       hash = refl;
+      saved = omega arith;
     }
 
 pub booted-table-valid : (flash : List ℕ) (pin : Bool) (kind : BusKind) (cause : ResetCause) (unread : Bool) → is_flash_size (length flash) ≡ true → Valid (booted_table flash pin kind cause unread)

@@ -1,4 +1,5 @@
--- A jump from one image to the other.
+-- A jump from one image to the other. To the image that runs it does nothing; under lock all but the first one are denied; it
+-- fails where the target's vector lies outside its region; and else the target runs (`jump_status`, `after_jump`).
 use Rattle.std.specs.Prelude.{ℕ, ◌+◌, Bool, true, false, not, ◌&&◌, nat_lt, nat_le, if◌then◌else◌, List, [], length, bit_or}
 use Rattle.ec_types.specs.LittleEndian.{u32_at}
 use Rattle.ec_types.specs.declared.image.ImageCopy.{ImageCopy}

@@ -1,5 +1,5 @@
 -- The state of the controller: its flash, its pin, and, where it is on, what lasts until the next reset.
-use Rattle.std.specs.Prelude.{◌≡◌, ℕ, ◌+◌, ◌*◌, ◌/◌, ◌≤◌, Bool, true, false, ◌&&◌, ◌||◌, ◌==◌, nat_lt, nat_le, List, [], length, ⊤, IsTrue, IsFalse, Option, Some, None}
+use Rattle.std.specs.Prelude.{◌≡◌, ℕ, ◌+◌, ◌*◌, ◌/◌, ◌^◌, ◌≤◌, ◌<◌, Bool, true, false, ◌&&◌, ◌||◌, ◌==◌, nat_lt, nat_le, List, [], length, ⊤, IsTrue, IsFalse, Option, Some, None}
 use Rattle.flash_dev.specs.Flash.{block_size}
 use Rattle.ec_types.specs.LittleEndian.{u16_at}
 use Rattle.ec_types.specs.declared.bus.BusKind.{BusKind}
@@ -119,6 +119,8 @@ pub record IsAwakeValid (size : ℕ) (kind : BusKind) (awake : Awake) : Type 0 w
   pub jumped : awake.live.copy ≡ Rw → IsTrue awake.live.jumped
   pub erase : IsErasable size awake.live awake.live.erase
   pub hash : IsHashable size awake.live.hash awake.nonce
+  -- a reply can tell the saved status
+  pub saved : awake.live.saved < 2 ^ 16
   pub bus_kind : kind_of awake.bus ≡ kind
   pub bus : IsBusValid awake.bus
 

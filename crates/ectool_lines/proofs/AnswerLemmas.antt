@@ -6,18 +6,21 @@ use Rattle.ec_types.specs.LittleEndian.{u16_at}
 use Rattle.ec_types.specs.declared.bus.BusKind.TheVariants.{Lpc}
 use Rattle.ec_model.specs.declared.event.Entry.{Entry}
 use Rattle.ec_model.specs.Packet.{request_packet, response_packet}
-use Rattle.ec_model.specs.Bus.{BusState, OnLpc, fresh_bus, low_status}
-use Rattle.ec_model.specs.HostCalls.{HostCall, Did, Waited, on_after}
+use Rattle.ec_model.specs.HostCalls.{HostCall, Did, Waited, calls_of, on_after}
 use Rattle.ec_model.specs.Heard.{Reply}
-use Rattle.ec_model.specs.Table.{Table, Awake, Power, Off, On, Core, Valid, is_on, core_of, table_of}
+use Rattle.ec_model.specs.Table.{Table, Awake, Power, Off, On, Core, Valid, is_on, core_of}
 use Rattle.ec_model.specs.Answer.{Outcome, Answered, Restarts}
 use Rattle.ec_model.specs.Handle.{handled}
+use Rattle.ec_model.specs.Syncable.{settled}
 use Rattle.ec_model.specs.Run.{IsRun}
 use Rattle.ec_model.specs.Upset.{is_upset, IsUndisturbed}
 use Rattle.ec_model.proofs.RunLaws.{run-valid, run-split}
+use Rattle.ec_model.proofs.ValidRows.{IsCoreValid}
 use Rattle.ec_wire.specs.Quiet.{quiet_entry}
-use Rattle.host_runs.specs.Exchange.{ShowsIdle, lpc_exchange, IsExchange}
+use Rattle.host_runs.specs.Exchange.{first_statuses, lpc_exchange, IsExchange}
 use Rattle.host_runs.specs.Served.{IsPlain, IsAnswer}
+use Rattle.host_runs.proofs.CalmRun.{calm_lead}
+use Rattle.host_runs.proofs.LpcSend.{bus-facts, settled-valid, lpc-calm}
 use Rattle.host_runs.proofs.LpcExchange.{exchange-run}
 use Rattle.host_runs.proofs.Plain.{plain-answered}
 use Rattle.host_runs.proofs.Response.{eq-true}
@@ -31,18 +34,17 @@ use Rattle.ectool_lines.specs.Answering.{IsAnswered, IsUnanswered, AnswersBy, An
 use Rattle.ectool_lines.proofs.SendLemmas.{command-short, command-plain}
 use Rattle.ectool_lines.proofs.WantLemmas.{HasWanted, command-wanted}
 
--- a controller on LPC that is on or off, whose bus shows that nothing is there where it is on
+-- a controller on LPC that is on or off
 pub record Ready (on : Bool) (table : Table) : Type 0 where
   pub valid : Valid table
   pub kind : table.kind ≡ Lpc
   pub on_is : is_on table.power ≡ on
-  pub idle : (awake : Awake) → table.power ≡ On awake → ShowsIdle 0 awake.bus
 
 -- a command that fits into a packet on LPC, is no COLD, and whose success has as many bytes as are wanted
 pub record IsProper (asked : Asked) : Type 0 where
   pub plain : IsPlain (packet_of asked)
   pub short : length (packet_of asked) ≤ 256
-  pub wanted : (core : Core) → HasWanted asked.want (handled core 256 (packet_of asked))
+  pub wanted : (core : Core) → IsCoreValid core → HasWanted asked.want (handled core 256 (packet_of asked))
 
 -- neither of two lists of entries is disturbed
 pub calm-both : (first second : List Entry) → IsUndisturbed (first ++ second) → IsUndisturbed first × IsUndisturbed second
@@ -80,68 +82,61 @@ heard-said want status body small wanted =
     let read = status-read status body small in
     rw read (said-by status body (status == 0) (length body == want) (λ success. eq-true (length body) want (wanted (eq-of-test status 0 success))))
 
--- the bus of a controller that is on, and another one where it is off
-abbrev bus-in : BusState → Power → BusState
-bus-in other Off = other
-bus-in other (On awake) = awake.bus
-
--- a controller whose bus shows that nothing is there
-ready-at : (core : Core) (window : List ℕ) (outcome : ℕ) → Valid (table_of core (OnLpc (record { window = window; status = 0; outcome = outcome }))) →
-    Ready true (table_of core (OnLpc (record { window = window; status = 0; outcome = outcome })))
-ready-at core window outcome valid =
-    record { valid = valid; kind = refl; on_is = refl; idle = λ awake same. idle-on core window outcome awake same }
-  where
-    idle-on : (core : Core) (window : List ℕ) (outcome : ℕ) (awake : Awake) → On (record { live = core.live; nonce = core.nonce; bus = OnLpc (record { window = window; status = 0; outcome = outcome }) }) ≡ On awake → ShowsIdle 0 awake.bus
-    idle-on core window outcome awake same =
-        let bus : OnLpc (record { window = window; status = 0; outcome = outcome }) ≡ awake.bus = ap (bus-in (fresh_bus Lpc)) same in
-        subst (λ (b : BusState). ShowsIdle 0 b) bus (refl, refl)
-
 -- a command that was answered by a controller that is on
 pub record IsHeard (table : Table) (asked : Asked) (entries : List Entry) (ending : Ending) (after : Bool) (last : Table) : Type 0 where
   pub answers : Answers table asked entries ending last
   pub ready : Ready after last
 
 -- the same by the state that the table has
-answers-on : (table last : Table) (awake : Awake) (asked : Asked) (entries : List Entry) (ending : Ending) → table.power ≡ On awake → IsAnswered table awake asked entries ending last → Answers table asked entries ending last
+answers-on : (table last : Table) (awake : Awake) (asked : Asked) (entries : List Entry) (ending : Ending) → table.power ≡ On awake → IsAnswered table asked entries ending last → Answers table asked entries ending last
 answers-on table last awake asked entries ending on answered = subst (λ (power : Power). AnswersBy power table asked entries ending last) (sym on) answered
 
 answers-off : (table last : Table) (asked : Asked) (entries : List Entry) (ending : Ending) → table.power ≡ Off → IsUnanswered table entries ending last → Answers table asked entries ending last
 answers-off table last asked entries ending off unanswered = subst (λ (power : Power). AnswersBy power table asked entries ending last) (sym off) unanswered
 
--- a command that was handled
-answered-by : (table last : Table) (awake : Awake) (asked : Asked) (entries : List Entry) (ending : Ending) (after : Bool) (outcome : Outcome) → table.power ≡ On awake → handled (core_of table awake) 256 (packet_of asked) ≡ outcome → IsAnswer outcome → HasWanted asked.want outcome →
+-- a command that was handled on the settled table
+answered-by : (table last : Table) (first awake : Awake) (asked : Asked) (entries : List Entry) (ending : Ending) (after : Bool) (outcome : Outcome) → table.power ≡ On first → (settled table).power ≡ On awake → handled (core_of (settled table) awake) 256 (packet_of asked) ≡ outcome → IsAnswer outcome → HasWanted asked.want outcome →
     Ready true table → IsProper asked → Hears Lpc true asked entries ending after → IsRun table entries last → IsUndisturbed entries → IsHeard table asked entries ending after last
-answered-by table last awake asked entries ending after Restarts power same answer wanted ready proper hears run calm = absurd answer
-answered-by table last awake asked entries ending after (Answered new status body) power same answer wanted ready proper hears run calm =
+answered-by table last first awake asked entries ending after Restarts power on same answer wanted ready proper hears run calm = absurd answer
+answered-by table last first awake asked entries ending after (Answered new status body) power on same answer wanted ready proper hears run calm =
     let sent = hears.once in
-    let exchange : IsExchange 0 (packet_of asked) (response_packet status body) new entries sent.heard last =
-    exchange-run table awake 0 (packet_of asked) entries sent.heard last new status body ready.valid power (ready.idle awake power) proper.plain proper.short sent.sent run calm hears.steps same in
+    let response = response_packet status body in
+    let exchange : IsExchange (first_statuses table) (packet_of asked) response new entries sent.heard last =
+    exchange-run table awake (packet_of asked) entries sent.heard last new status body ready.valid ready.kind on proper.plain proper.short sent.sent run calm hears.steps same in
     let left = exchange.exchanges in
-    let on : on_after entries true ≡ true = ap (λ (e : List Entry). on_after e true) exchange.entries ∙ quiet-on (lpc_exchange 0 (packet_of asked) (response_packet status body)) true in
+    let still : on_after entries true ≡ true = ap (λ (e : List Entry). on_after e true) exchange.entries ∙ quiet-on (lpc_exchange (first_statuses table) (packet_of asked) response) true in
     let heard : ended (on_after entries true) (heard_as asked.want sent.heard) ≡ Said status body =
-    ap (λ (o : Bool). ended o (heard_as asked.want sent.heard)) on ∙ ap (heard_as asked.want) left.heard_is ∙ heard-said asked.want status body wanted.0 wanted.1 in
-    let bus : BusState = OnLpc (record { window = left.window; status = 0; outcome = low_status (response_packet status body) }) in
+    ap (λ (o : Bool). ended o (heard_as asked.want sent.heard)) still ∙ ap (heard_as asked.want) left.heard_is ∙ heard-said asked.want status body wanted.0 wanted.1 in
     record {
-      answers = answers-on table last awake asked entries ending power (record {
+      answers = answers-on table last first asked entries ending power (record {
+        awake = awake;
         after = new;
         status = status;
         body = body;
-        bus = bus;
+        window = left.window;
+        on = on;
         handled_is = same;
         entries_are = exchange.entries;
         ending_is = sent.ending_is ∙ heard;
         new_is = left.leaves;
-        idle = (refl, refl);
       });
-      ready = subst (λ (o : Bool). Ready o last) (sym (hears.on_is ∙ on))
-          (subst (λ (t : Table). Ready true t) (sym left.leaves) (ready-at new left.window (low_status (response_packet status body)) (subst Valid left.leaves (run-valid table entries last ready.valid run))));
+      ready = record {
+        valid = run-valid table entries last ready.valid run;
+        kind = ap (λ (t : Table). t.kind) left.leaves;
+        on_is = ap (λ (t : Table). is_on t.power) left.leaves ∙ sym (hears.on_is ∙ still);
+      };
     }
 
 -- one command, by the state of the controller
 heard-by : (power : Power) (on : Bool) (table last : Table) (asked : Asked) (entries : List Entry) (ending : Ending) (after : Bool) → table.power ≡ power → is_on power ≡ on → Ready on table → IsProper asked → Hears Lpc on asked entries ending after → IsRun table entries last → IsUndisturbed entries →
     IsHeard table asked entries ending after last
-heard-by (On awake) true table last asked entries ending after power on ready proper hears run calm =
-    answered-by table last awake asked entries ending after (handled (core_of table awake) 256 (packet_of asked)) power refl (plain-answered (packet_of asked) (core_of table awake) 256 proper.plain) (proper.wanted (core_of table awake)) ready proper hears run calm
+heard-by (On first) true table last asked entries ending after power on ready proper hears run calm =
+    let sent = hears.once in
+    let packet = packet_of asked in
+    let serves = lpc-calm table first packet (calls_of entries) sent.heard last ready.valid power ready.kind proper.plain proper.short sent.sent (calm_lead table entries last calm run) in
+    let core = core_of (settled table) serves.awake in
+    let facts = bus-facts (settled table) serves.awake (settled-valid table ready.valid) serves.on in
+    answered-by table last first serves.awake asked entries ending after (handled core 256 packet) power serves.on refl (plain-answered packet core 256 proper.plain) (proper.wanted core facts.core) ready proper hears run calm
 heard-by Off false table last asked entries ending after power off ready proper hears run calm =
     let unsent = hears.once in
     let same : last ≡ table = subst (λ (e : List Entry). IsRun table e last) unsent.none run in
@@ -150,7 +145,7 @@ heard-by Off false table last asked entries ending after power off ready proper 
       answers = answers-off table last asked entries ending power (record { none = unsent.none; ending_is = unsent.ending_is; same = same });
       ready = subst (λ (o : Bool). Ready o last) (sym still) (subst (λ (t : Table). Ready false t) (sym same) ready);
     }
-heard-by (On awake) false table last asked entries ending after power on ready proper hears run calm = cc
+heard-by (On first) false table last asked entries ending after power on ready proper hears run calm = cc
 heard-by Off true table last asked entries ending after power off ready proper hears run calm = cc
 
 heard : (on : Bool) (table last : Table) (asked : Asked) (entries : List Entry) (ending : Ending) (after : Bool) → Ready on table → IsProper asked → Hears Lpc on asked entries ending after → IsRun table entries last → IsUndisturbed entries → IsHeard table asked entries ending after last
@@ -237,4 +232,4 @@ proper-first f (suc count) each = proper-more (first_of count f) (f count) (prop
 pub tool-proper : (tool : Tool) → IsInRange tool → AreProper (commands_of 256 tool)
 tool-proper tool within =
     proper-first (command_of 256 tool) (count_of 256 tool)
-    (λ k. record { plain = command-plain tool k within; short = packet-short (command_of 256 tool k).command (command_of 256 tool k).version (command_of 256 tool k).body (command-short tool k within); wanted = λ core. command-wanted tool k core within })
+    (λ k. record { plain = command-plain tool k within; short = packet-short (command_of 256 tool k).command (command_of 256 tool k).version (command_of 256 tool k).body (command-short tool k within); wanted = λ core valid. command-wanted tool k core valid within })

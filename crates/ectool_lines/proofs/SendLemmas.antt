@@ -3,7 +3,6 @@ use Rattle.std.proofs.Common.{◌≡◌, refl, sym, ap, ◌∙◌, subst, ℕ, z
 use Rattle.std.proofs.lemmas.Bool.{cases_lt}
 use Rattle.ec_model.proofs.GuardSteps.{if_cases}
 use Rattle.std.specs.Prelude.{replicate}
-use Rattle.std.proofs.lemmas.Bool.Decides.{eqb_tells}
 use Rattle.std.proofs.lemmas.List.{length-take, length-append, length-replicate}
 use Rattle.ec_types.specs.Tables.{packet_limit}
 use Rattle.ec_types.specs.declared.bus.BusKind.{BusKind}
@@ -21,7 +20,7 @@ use Rattle.host_transport.specs.Ends.{ending_of}
 use Rattle.host_transport.specs.declared.ending.Once.{Once}
 use Rattle.host_transport.specs.declared.ending.Once.TheVariants.{Status, Bad, Silent, NoPower}
 use Rattle.ectool_lines.specs.declared.tool.Tool.{Tool}
-use Rattle.ectool_lines.specs.declared.tool.Tool.TheVariants.{Hello, ChipInfo, CmdVersions, ProtoInfo, FlashInfo, RegionInfo, FlashRead, FlashWrite, FlashProtect, Test}
+use Rattle.ectool_lines.specs.declared.tool.Tool.TheVariants.{Hello, ChipInfo, CmdVersions, ProtoInfo, FlashInfo, RegionInfo, FlashRead, FlashWrite, FlashProtect, Test, Resend}
 use Rattle.ectool_lines.specs.Tools.{IsInRange}
 use Rattle.ectool_lines.specs.Requests.{Asked, packet_of, first_of, parts_of, count_of, command_of, commands_of}
 use Rattle.ectool_lines.specs.Texts.{Succeeded, Stopped, printed, replies_text, reply_text, closing_text, refusal_text}
@@ -172,6 +171,7 @@ count-few (FlashRead at size) within = parts-few size within
 count-few (FlashWrite at bytes) within = write_parts-few (length bytes) within.1
 count-few (FlashProtect mask flags) within = omega arith
 count-few (Test ec_result ret_len bytes) within = omega arith
+count-few Resend within = omega arith
 
 -- the body of a write of at most so many bytes
 write-short : (at : ℕ) (bytes : List ℕ) → length bytes ≤ 240 → length (flash_write_ask at bytes) ≤ 248
@@ -201,6 +201,7 @@ command-short (FlashRead at size) k within = omega arith
 command-short (FlashWrite at bytes) k within = write-short ((at + k * 240) % 2 ^ 32) (take 240 (drop (k * 240) bytes)) (part-short 240 (k * 240) bytes)
 command-short (FlashProtect mask flags) k within = omega arith
 command-short (Test ec_result ret_len bytes) k within = test-short ec_result ret_len bytes within.2
+command-short Resend k within = omega arith
 
 -- what a success has at most on LPC
 pub command-wants : (tool : Tool) (k : ℕ) → IsInRange tool → (command_of 256 tool k).want ≤ 248
@@ -214,32 +215,31 @@ command-wants (FlashRead at size) k within = omega arith
 command-wants (FlashWrite at bytes) k within = omega arith
 command-wants (FlashProtect mask flags) k within = omega arith
 command-wants (Test ec_result ret_len bytes) k within = omega (arith, within.0)
+command-wants Resend k within = omega arith
 
--- the numbers of the commands of lines are below that of COLD
-command-below : (tool : Tool) (k : ℕ) → (command_of 256 tool k).command < 0xD2
-command-below Hello k = omega arith
-command-below ChipInfo k = omega arith
-command-below (CmdVersions number) k = omega arith
-command-below ProtoInfo k = omega arith
-command-below FlashInfo k = omega arith
-command-below (RegionInfo region) k = omega arith
-command-below (FlashRead at size) k = omega arith
-command-below (FlashWrite at bytes) k = omega arith
-command-below (FlashProtect mask flags) k = omega arith
-command-below (Test ec_result ret_len bytes) k = omega arith
+-- a number of 16 bits that is not REBOOT_EC's
+abbrev IsOther : ℕ → Type 0
+IsOther number = (number < 2 ^ 16) × ((number == 0xD2) ≡ false)
 
--- a smaller number is another one
-below-other : (a b : ℕ) → a < b → (a == b) ≡ false
-below-other a b small = grind (arith, eqb_tells)
+-- no line sends REBOOT_EC
+command-other : (tool : Tool) (k : ℕ) → IsOther (command_of 256 tool k).command
+command-other Hello k = (omega arith, refl)
+command-other ChipInfo k = (omega arith, refl)
+command-other (CmdVersions number) k = (omega arith, refl)
+command-other ProtoInfo k = (omega arith, refl)
+command-other FlashInfo k = (omega arith, refl)
+command-other (RegionInfo region) k = (omega arith, refl)
+command-other (FlashRead at size) k = (omega arith, refl)
+command-other (FlashWrite at bytes) k = (omega arith, refl)
+command-other (FlashProtect mask flags) k = (omega arith, refl)
+command-other (Test ec_result ret_len bytes) k = (omega arith, refl)
+command-other Resend k = (omega arith, refl)
 
--- a command whose number is below that of COLD is none
-no-cold : (asked : Asked) → asked.command < 0xD2 → ((asked.command == 0xD2) && is_cold_body asked.body) ≡ false
-no-cold asked small = ap (λ (same : Bool). same && is_cold_body asked.body) (below-other asked.command 0xD2 small)
-
--- a command that is no COLD, as it is spelled
-plain-at : (asked : Asked) → asked.command < 0xD2 → length asked.body ≤ 248 → IsPlain (packet_of asked)
-plain-at asked small short = plain-spelled asked.command asked.version asked.body (omega (arith, small)) (omega (arith, short)) (no-cold asked small)
+-- a command that is not REBOOT_EC, as it is spelled
+plain-at : (asked : Asked) → IsOther asked.command → length asked.body ≤ 248 → IsPlain (packet_of asked)
+plain-at asked (small, other) short =
+    plain-spelled asked.command asked.version asked.body small (omega (arith, short)) (ap (λ (same : Bool). same && is_cold_body asked.body) other)
 
 -- no command of a line is a COLD
 pub command-plain : (tool : Tool) (k : ℕ) → IsInRange tool → IsPlain (packet_of (command_of 256 tool k))
-command-plain tool k within = plain-at (command_of 256 tool k) (command-below tool k) (command-short tool k within)
+command-plain tool k within = plain-at (command_of 256 tool k) (command-other tool k) (command-short tool k within)

@@ -14,9 +14,10 @@ use Rattle.ec_model.specs.Answer.{Outcome, Answered, Restarts, done}
 use Rattle.ec_model.specs.FlashRows.{unless_refused, asked_range, flash_read_row, flash_write_row, written, is_whole_units}
 use Rattle.ec_model.specs.Handle.{Admitted, row_of, admitted_from, handled}
 use Rattle.ec_model.proofs.GuardSteps.{if_cases}
+use Rattle.ec_model.proofs.ValidRows.{IsCoreValid}
 use Rattle.host_runs.proofs.Spelled.{framing-spelled}
 use Rattle.ectool_lines.specs.declared.tool.Tool.{Tool}
-use Rattle.ectool_lines.specs.declared.tool.Tool.TheVariants.{Hello, ChipInfo, CmdVersions, ProtoInfo, FlashInfo, RegionInfo, FlashRead, FlashWrite, FlashProtect, Test}
+use Rattle.ectool_lines.specs.declared.tool.Tool.TheVariants.{Hello, ChipInfo, CmdVersions, ProtoInfo, FlashInfo, RegionInfo, FlashRead, FlashWrite, FlashProtect, Test, Resend}
 use Rattle.ectool_lines.specs.Tools.{IsInRange}
 use Rattle.ectool_lines.specs.Requests.{region_number, packet_of, command_of}
 use Rattle.ectool_lines.proofs.SendLemmas.{command-short, padded-length}
@@ -63,25 +64,25 @@ write-row-wanted core version body =
     (λ blocked. refusal-wanted 0 core 4 (omega arith) (omega arith))
     (λ open_. (omega arith, λ none. refl)))
 
--- a command that is built, behind the checks
-checked-wanted : (want : ℕ) (core : Core) (spelled : Bool) (admitted : Admitted) → HasWanted want (row_of core 256 (Ok admitted)) →
-    HasWanted want (row_of core 256 (if is_some core.live.erase && true then Err 16 else if not spelled then Err 3 else Ok admitted))
-checked-wanted want core spelled admitted wanted =
+-- a command behind the checks; a pending erase may hold it up
+checked-wanted : (want : ℕ) (core : Core) (held spelled : Bool) (admitted : Admitted) → HasWanted want (row_of core 256 (Ok admitted)) →
+    HasWanted want (row_of core 256 (if is_some core.live.erase && held then Err 16 else if not spelled then Err 3 else Ok admitted))
+checked-wanted want core held spelled admitted wanted =
     let answers : Result Admitted ℕ → Type 0 = λ result. HasWanted want (row_of core 256 result) in
-    if_cases answers (is_some core.live.erase && true) (Err 16) (if not spelled then Err 3 else Ok admitted) (λ busy. refusal-wanted want core 16 (omega arith) (omega arith))
+    if_cases answers (is_some core.live.erase && held) (Err 16) (if not spelled then Err 3 else Ok admitted) (λ busy. refusal-wanted want core 16 (omega arith) (omega arith))
     (λ free. if_cases answers (not spelled) (Err 3) (Ok admitted) (λ wrong. refusal-wanted want core 3 (omega arith) (omega arith)) (λ right. wanted))
 
 -- HELLO
 hello-wanted : (core : Core) → HasWanted 4 (row_of core 256 (admitted_from core (Ok (record { command = 0x01; version = 0; body = hello_ask 0xA0B0C0D0 }))))
-hello-wanted core = checked-wanted 4 core true _ (omega arith, λ none. omega arith)
+hello-wanted core = checked-wanted 4 core true true _ (omega arith, λ none. omega arith)
 
 -- FLASH_READ
 read-wanted : (core : Core) (at size : ℕ) → size < 2 ^ 32 → HasWanted size (row_of core 256 (admitted_from core (Ok (record { command = 0x11; version = 0; body = flash_read_ask at size }))))
-read-wanted core at size small = checked-wanted size core true _ (read-row-wanted core at size small)
+read-wanted core at size small = checked-wanted size core true true _ (read-row-wanted core at size small)
 
 -- FLASH_WRITE
 write-wanted : (core : Core) (body : List ℕ) → HasWanted 0 (row_of core 256 (admitted_from core (Ok (record { command = 0x12; version = 1; body = body }))))
-write-wanted core body = checked-wanted 0 core (is_write_spelled body) _ (write-row-wanted core 1 body)
+write-wanted core body = checked-wanted 0 core true (is_write_spelled body) _ (write-row-wanted core 1 body)
 
 -- a request as it is spelled
 spelled-wanted : (want : ℕ) (core : Core) (command version : ℕ) (body : List ℕ) → command < 65536 → length body < 65536 →
@@ -119,31 +120,32 @@ test-wanted core ec_result ret_len buf short whole =
 
 -- FLASH_PROTECT
 protect-wanted : (core : Core) (mask flags : ℕ) → HasWanted 12 (row_of core 256 (admitted_from core (Ok (record { command = 0x15; version = 1; body = flash_protect_ask mask flags }))))
-protect-wanted core mask flags = checked-wanted 12 core true _ (omega arith, λ none. omega arith)
+protect-wanted core mask flags = checked-wanted 12 core true true _ (omega arith, λ none. omega arith)
 
 -- each command of a line
-pub command-wanted : (tool : Tool) (k : ℕ) (core : Core) → IsInRange tool → HasWanted (command_of 256 tool k).want (handled core 256 (packet_of (command_of 256 tool k)))
-command-wanted Hello k core within = spelled-wanted 4 core 0x01 0 (hello_ask 0xA0B0C0D0) (omega arith) (omega arith) (hello-wanted core)
-command-wanted ChipInfo k core within = spelled-wanted 96 core 0x05 0 [] (omega arith) (omega arith) (checked-wanted 96 core true _ (omega arith, λ none. refl))
-command-wanted (CmdVersions number) k core within =
+pub command-wanted : (tool : Tool) (k : ℕ) (core : Core) → IsCoreValid core → IsInRange tool → HasWanted (command_of 256 tool k).want (handled core 256 (packet_of (command_of 256 tool k)))
+command-wanted Hello k core valid within = spelled-wanted 4 core 0x01 0 (hello_ask 0xA0B0C0D0) (omega arith) (omega arith) (hello-wanted core)
+command-wanted ChipInfo k core valid within = spelled-wanted 96 core 0x05 0 [] (omega arith) (omega arith) (checked-wanted 96 core true true _ (omega arith, λ none. refl))
+command-wanted (CmdVersions number) k core valid within =
     let body = cmd_versions_ask1 number in
-    spelled-wanted 4 core 0x08 1 body (omega arith) (omega arith) (checked-wanted 4 core true _ (mask-wanted core (known (u16_at 0 body))))
-command-wanted ProtoInfo k core within = spelled-wanted 12 core 0x0B 0 [] (omega arith) (omega arith) (checked-wanted 12 core true _ (omega arith, λ none. refl))
-command-wanted FlashInfo k core within = spelled-wanted 24 core 0x10 1 [] (omega arith) (omega arith) (checked-wanted 24 core true _ (omega arith, λ none. omega arith))
-command-wanted (RegionInfo region) k core within =
+    spelled-wanted 4 core 0x08 1 body (omega arith) (omega arith) (checked-wanted 4 core true true _ (mask-wanted core (known (u16_at 0 body))))
+command-wanted ProtoInfo k core valid within = spelled-wanted 12 core 0x0B 0 [] (omega arith) (omega arith) (checked-wanted 12 core true true _ (omega arith, λ none. refl))
+command-wanted FlashInfo k core valid within = spelled-wanted 24 core 0x10 1 [] (omega arith) (omega arith) (checked-wanted 24 core true true _ (omega arith, λ none. omega arith))
+command-wanted (RegionInfo region) k core valid within =
     let body = region_info_ask (region_number region) in
-    spelled-wanted 8 core 0x16 1 body (omega arith) (omega arith) (checked-wanted 8 core true _ (range-wanted core (region_range (u32_at 0 body) (length core.flash))))
-command-wanted (FlashRead at size) k core within =
+    spelled-wanted 8 core 0x16 1 body (omega arith) (omega arith) (checked-wanted 8 core true true _ (range-wanted core (region_range (u32_at 0 body) (length core.flash))))
+command-wanted (FlashRead at size) k core valid within =
     let part = min 248 (size - k * 248) in
     let place = (at + k * 248) % 2 ^ 32 in
     spelled-wanted part core 0x11 0 (flash_read_ask place part) (omega arith) (omega arith) (read-wanted core place part (omega arith))
-command-wanted (FlashWrite at bytes) k core within =
+command-wanted (FlashWrite at bytes) k core valid within =
     let body = (command_of 256 (FlashWrite at bytes) k).body in
     spelled-wanted 0 core 0x12 1 body (omega arith) (omega (arith, command-short (FlashWrite at bytes) k within)) (write-wanted core body)
-command-wanted (FlashProtect mask flags) k core within =
+command-wanted (FlashProtect mask flags) k core valid within =
     spelled-wanted 12 core 0x15 1 (flash_protect_ask mask flags) (omega arith) (omega arith) (protect-wanted core mask flags)
-command-wanted (Test ec_result ret_len bytes) k core within =
+command-wanted (Test ec_result ret_len bytes) k core valid within =
     let body = test_ask ec_result ret_len (zero_padded 32 bytes) in
     let whole = padded-length 32 bytes within.2 in
     spelled-wanted ret_len core 0x0A 0 body (omega arith) (omega (arith, command-short (Test ec_result ret_len bytes) k within))
-    (checked-wanted ret_len core (length body == 40) _ (test-wanted core ec_result ret_len (zero_padded 32 bytes) within.0 whole))
+    (checked-wanted ret_len core true (length body == 40) _ (test-wanted core ec_result ret_len (zero_padded 32 bytes) within.0 whole))
+command-wanted Resend k core valid within = spelled-wanted 0 core 0xDB 0 [] (omega arith) (omega arith) (checked-wanted 0 core false true _ (valid.saved, λ none. refl))

@@ -4,27 +4,30 @@ use Rattle.ec_types.specs.Tables.{packet_limit}
 use Rattle.ec_types.specs.declared.bus.BusKind.TheVariants.{Lpc}
 use Rattle.ec_model.specs.declared.event.Entry.{Entry}
 use Rattle.ec_model.specs.Packet.{response_packet}
-use Rattle.ec_model.specs.Bus.{BusState}
+use Rattle.ec_model.specs.Bus.{OnLpc, low_status}
 use Rattle.ec_model.specs.Table.{Table, Awake, Power, Off, On, Core, core_of, table_of}
 use Rattle.ec_model.specs.Answer.{Answered}
 use Rattle.ec_model.specs.Handle.{handled}
+use Rattle.ec_model.specs.Syncable.{settled}
 use Rattle.ec_wire.specs.Quiet.{quiet_entry}
-use Rattle.host_runs.specs.Exchange.{ShowsIdle, lpc_exchange}
+use Rattle.host_runs.specs.Exchange.{first_statuses, lpc_exchange}
 use Rattle.host_transport.specs.Once.{Ending, Said, NoPower}
 use Rattle.ectool_lines.specs.Requests.{Asked, packet_of}
 
--- a command is handled, its exchange on the bus brings the response, and the host hears its status and body; the bus shows
--- that nothing is there behind it
-pub record IsAnswered (old : Table) (awake : Awake) (asked : Asked) (entries : List Entry) (ending : Ending) (new : Table) : Type 0 where
+-- the request that waits is served first; then the command is handled, its exchange on the bus brings the response, and the host
+-- hears its status and body; behind it the bus shows status 0
+pub record IsAnswered (old : Table) (asked : Asked) (entries : List Entry) (ending : Ending) (new : Table) : Type 0 where
+  pub awake : Awake
   pub after : Core
   pub status : ℕ
   pub body : List ℕ
-  pub bus : BusState
-  pub handled_is : handled (core_of old awake) (packet_limit Lpc) (packet_of asked) ≡ Answered after status body
-  pub entries_are : entries ≡ map quiet_entry (lpc_exchange 0 (packet_of asked) (response_packet status body))
+  pub window : List ℕ
+  pub on : (settled old).power ≡ On awake
+  pub handled_is : handled (core_of (settled old) awake) (packet_limit Lpc) (packet_of asked) ≡ Answered after status body
+  pub entries_are : entries ≡ map quiet_entry (lpc_exchange (first_statuses old) (packet_of asked) (response_packet status body))
   pub ending_is : ending ≡ Said status body
-  pub new_is : new ≡ table_of after bus
-  pub idle : ShowsIdle 0 bus
+  pub new_is :
+      new ≡ table_of after (OnLpc (record { window = window; status = 0; outcome = low_status (response_packet status body) }))
 
 -- nothing is sent to a controller that is off
 pub record IsUnanswered (old : Table) (entries : List Entry) (ending : Ending) (new : Table) : Type 0 where
@@ -35,7 +38,7 @@ pub record IsUnanswered (old : Table) (entries : List Entry) (ending : Ending) (
 -- by whether the controller is on
 abbrev pub AnswersBy : Power → Table → Asked → List Entry → Ending → Table → Type 0
 AnswersBy Off old asked entries ending new = IsUnanswered old entries ending new
-AnswersBy (On awake) old asked entries ending new = IsAnswered old awake asked entries ending new
+AnswersBy (On awake) old asked entries ending new = IsAnswered old asked entries ending new
 
 -- a command, asked of a controller in this state
 abbrev pub Answers : Table → Asked → List Entry → Ending → Table → Type 0

@@ -6,7 +6,7 @@ use Rattle.flash_dev.specs.declared.geometry.Region.TheVariants.{Ro, Active, WpR
 use Rattle.ec_model.specs.Bodies.{hello_ask, cmd_versions_ask1, region_info_ask, test_ask, flash_read_ask, flash_write_ask, flash_protect_ask}
 use Rattle.ec_model.specs.InfoRows.{zero_padded}
 use Rattle.ectool_lines.specs.declared.tool.Tool.{Tool}
-use Rattle.ectool_lines.specs.declared.tool.Tool.TheVariants.{Hello, ChipInfo, CmdVersions, ProtoInfo, FlashInfo, RegionInfo, FlashRead, FlashWrite, FlashProtect, Test}
+use Rattle.ectool_lines.specs.declared.tool.Tool.TheVariants.{Hello, ChipInfo, CmdVersions, ProtoInfo, FlashInfo, RegionInfo, FlashRead, FlashWrite, FlashProtect, Test, Resend}
 
 -- a command as it is sent: its number, its version, its body, and how many bytes a reply has that is a success
 pub record Asked : Type 0 where
@@ -74,6 +74,7 @@ command_of limit (RegionInfo region) k =
 command_of limit (FlashProtect mask flags) k =
     record { command = 0x15; version = 1; body = flash_protect_ask mask flags; want = 12 }
 command_of limit (Test ec_result ret_len bytes) k = test_command ec_result ret_len bytes
+command_of limit Resend k = question 0xDB 0 0
 command_of limit (FlashRead at size) k =
     read_command (at + k * (limit - 8)) (min (limit - 8) (size - k * (limit - 8)))
 command_of limit (FlashWrite at bytes) k =

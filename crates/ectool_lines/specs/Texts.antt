@@ -8,7 +8,7 @@ use Rattle.hex.specs.Hex.{encode_lower}
 use Rattle.ec_types.specs.Tables.{status_name}
 use Rattle.host_transport.specs.Once.{Ending, Said, Bad, Silent, NoPower}
 use Rattle.ectool_lines.specs.declared.tool.Tool.{Tool}
-use Rattle.ectool_lines.specs.declared.tool.Tool.TheVariants.{Hello, ChipInfo, CmdVersions, ProtoInfo, FlashInfo, RegionInfo, FlashRead, FlashWrite, FlashProtect, Test}
+use Rattle.ectool_lines.specs.declared.tool.Tool.TheVariants.{Hello, ChipInfo, CmdVersions, ProtoInfo, FlashInfo, RegionInfo, FlashRead, FlashWrite, FlashProtect, Test, Resend}
 
 -- a printed line: its text and a line feed
 abbrev pub printed : List ℕ → List ℕ
@@ -69,6 +69,7 @@ reply_text (FlashRead at size) body = encode_lower body
 reply_text (FlashWrite at bytes) body = []
 reply_text (FlashProtect mask flags) body = protection_text (u32_at 0 body) (u32_at 4 body) (u32_at 8 body)
 reply_text (Test ec_result ret_len bytes) body = encode_lower body
+reply_text Resend body = []
 
 -- what all the replies give, in their order
 abbrev pub replies_text : Tool → List (List ℕ) → List ℕ
@@ -79,6 +80,7 @@ replies_text tool (body ∷ bodies) = reply_text tool body ++ replies_text tool 
 abbrev pub closing_text : Tool → List ℕ
 closing_text Hello = codes "EC says hello!"
 closing_text (FlashWrite at bytes) = codes "wrote " ++ decimal (length bytes) ++ codes " bytes"
+closing_text Resend = codes "ok"
 closing_text other = []
 
 -- how the commands of a line ended: all in success, with these bodies of their replies; or one of them not

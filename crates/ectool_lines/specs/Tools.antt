@@ -10,7 +10,7 @@ use Rattle.script_words.specs.Words.{words_of}
 use Rattle.script_words.specs.Lines.{checked}
 use Rattle.script_words.specs.Forms.{◌>>=◌, two_words, alone, with_one, with_two, with_three, number_to, hex_to}
 use Rattle.ectool_lines.specs.declared.tool.Tool.{Tool}
-use Rattle.ectool_lines.specs.declared.tool.Tool.TheVariants.{Hello, ChipInfo, CmdVersions, ProtoInfo, FlashInfo, RegionInfo, FlashRead, FlashWrite, FlashProtect, Test}
+use Rattle.ectool_lines.specs.declared.tool.Tool.TheVariants.{Hello, ChipInfo, CmdVersions, ProtoInfo, FlashInfo, RegionInfo, FlashRead, FlashWrite, FlashProtect, Test, Resend}
 
 -- the region that a word names
 abbrev pub region_named : List ℕ → Option Region
@@ -64,6 +64,7 @@ tool_by (first ∷ words) =
     if bytes_eq first (codes "flashwrite") then with_two (number_to 0xFFFFFFFF) (hex_to 4096) FlashWrite words else
     if bytes_eq first (codes "flashprotect") then protect_by words else
     if bytes_eq first (codes "test") then with_three (number_to 0xFFFFFFFF) (number_to 32) (hex_to 32) Test words else
+    if bytes_eq first (codes "resend") then alone Resend words else
     Err Word
 
 -- a line, or its first fault

@@ -65,6 +65,7 @@ impl Tool {
                 ret_len,
                 bytes,
             } => test(*ec_result, *ret_len, bytes.as_slice()),
+            Tool::Resend => question(0xDB, 0, 0),
             Tool::FlashRead { at, size } => read(*at, *size as usize, limit - 8, k),
             Tool::FlashWrite { at, bytes } => write(*at, bytes.as_slice(), limit - 16, k),
         }

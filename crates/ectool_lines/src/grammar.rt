@@ -49,6 +49,8 @@ fn by_words(first: &[u8], rest: &[u8]) -> Result<Tool, Why>
         flash_protect(rest)
     } else if is_word(first, b"test") {
         test(rest)
+    } else if is_word(first, b"resend") {
+        alone(Tool::Resend, rest)
     } else {
         Err(Why::Word)
     }

@@ -23,7 +23,7 @@ impl LineText {
         ensures long { length self.new ≤ length self.old + 500 }
     {
         match tool {
-            Tool::Hello | Tool::FlashWrite { .. } => {}
+            Tool::Hello | Tool::FlashWrite { .. } | Tool::Resend => {}
             Tool::ChipInfo => self.add_chip(reply.as_slice()),
             Tool::CmdVersions { .. } => self.add_versions(reply.as_slice()),
             Tool::ProtoInfo => self.add_proto_info(reply.as_slice()),

@@ -49,6 +49,7 @@ fn questions_are_read(rt: HostRuntime) {
             })
         )
     );
+    assert!(rt; matches!(parse(b"resend"), Ok(Tool::Resend)));
     match parse(b"test 0x10 4 0a0b") {
         Ok(
             Tool::Test {

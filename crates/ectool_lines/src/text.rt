@@ -163,6 +163,7 @@ impl LineText {
         match tool {
             Tool::Hello => self.append(b"EC says hello!"),
             Tool::FlashWrite { at: _, bytes } => self.append_written(bytes.as_slice().len()),
+            Tool::Resend => self.append(b"ok"),
             _ => {}
         }
     }

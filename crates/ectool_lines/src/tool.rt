@@ -52,4 +52,6 @@ pub enum Tool {
         /// At least one byte, and at most 32.
         bytes: LineBytes,
     },
+    /// `resend`
+    Resend,
 }

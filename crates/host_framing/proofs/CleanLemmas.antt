@@ -23,7 +23,7 @@ use Rattle.ec_model.specs.Syncable.{settled}
 use Rattle.ec_wire.specs.Calls.{WireView, Grows, Agrees}
 use Rattle.ec_wire.proofs.Calm.{or-false, calm_entry, undisturbed}
 use Rattle.host_runs.specs.Calm.{CallsLead}
-use Rattle.host_runs.specs.Exchange.{ShowsIdle, IsExchange}
+use Rattle.host_runs.specs.Exchange.{first_statuses, IsExchange}
 use Rattle.host_runs.specs.Served.{IsPlain, Serves, Settles}
 use Rattle.host_runs.proofs.CalmRun.{calm_lead}
 use Rattle.host_runs.proofs.LpcSend.{lpc-calm, lpc-quiet}
@@ -157,12 +157,12 @@ lpc-caused packet heard old new kind plain short sends =
     caused-calm Lpc packet heard old new kind sends (λ told awake left valid on is lead. lpc-calm told awake packet (calls_of sends.added) heard left valid on is plain short sends.sent lead)
     (λ told left off lead. lpc-off told packet (calls_of sends.added) heard left off sends.sent lead)
 
--- LPC: each entry of an undisturbed send from a bus that is not busy
-pub lpc-exchanged : (packet : List ℕ) (heard : Heard) (old new : WireView) → IsPlain packet → length packet ≤ 256 → Sends Lpc packet heard old new → ExchangesWhereCalm packet heard old new
-lpc-exchanged packet heard old new plain short sends =
-    changes-map _ _ old.table new.table (λ (told left : Table) (run : IsRun told sends.added left) (agrees : Agrees old.bus old.on told) (calm : IsUndisturbed (since old new)) (awake : Awake) (status : ℕ) (after : Core) (result : ℕ) (body : List ℕ) (on : told.power ≡ On awake) (shows : ShowsIdle status awake.bus) (same : handled (core_of told awake) 256 packet ≡ Answered after result body).
-    subst (λ (entries : List Entry). IsExchange status packet (response_packet result body) after entries heard left) (sym (since-added sends.added old new sends.grows))
-    (exchange-run told awake status packet sends.added heard left after result body agrees.valid on shows plain short sends.sent run (added-calm sends.added old new sends.grows calm) sends.grows.steps same)) sends.grows.run
+-- LPC: each entry of an undisturbed send
+pub lpc-exchanged : (packet : List ℕ) (heard : Heard) (old new : WireView) → old.bus ≡ Lpc → IsPlain packet → length packet ≤ 256 → Sends Lpc packet heard old new → ExchangesWhereCalm packet heard old new
+lpc-exchanged packet heard old new kind plain short sends =
+    changes-map _ _ old.table new.table (λ (told left : Table) (run : IsRun told sends.added left) (agrees : Agrees old.bus old.on told) (calm : IsUndisturbed (since old new)) (awake : Awake) (after : Core) (result : ℕ) (body : List ℕ) (on : (settled told).power ≡ On awake) (same : handled (core_of (settled told) awake) 256 packet ≡ Answered after result body).
+    subst (λ (entries : List Entry). IsExchange (first_statuses told) packet (response_packet result body) after entries heard left) (sym (since-added sends.added old new sends.grows))
+    (exchange-run told awake packet sends.added heard left after result body agrees.valid (agrees.kind_is ∙ kind) on plain short sends.sent run (added-calm sends.added old new sends.grows calm) sends.grows.steps same)) sends.grows.run
 
 -- LPC: an undisturbed poll
 pub lpc-settles : (old new : WireView) → old.bus ≡ Lpc → Quiets Lpc old new → SettlesWhereCalm old new

@@ -1,27 +1,25 @@
 -- An undisturbed send on LPC: the request is handled, and its response is heard.
-use Rattle.std.proofs.Common.{◌≡◌, refl, sym, ap, ◌∙◌, subst, ℕ, ◌+◌, ◌≤◌, Bool, true, false, ◌⊎◌, inl, inr, ◌||◌, ◌&&◌, ◌==◌, nat_le, if◌then◌else◌, List, [], ◌∷◌, ◌++◌, length, take, drop, replicate, length-append, length-drop, append_assoc, append-nil, arith, Some}
+use Rattle.std.proofs.Common.{◌≡◌, refl, sym, ap, ◌∙◌, subst, ℕ, ◌+◌, ◌≤◌, Bool, true, false, ◌&&◌, ◌==◌, nat_le, if◌then◌else◌, List, [], ◌∷◌, ◌++◌, length, take, drop, replicate, length-append, length-drop, append_assoc, append-nil, arith, Some}
 use Rattle.std.proofs.lemmas.Bool.Decides.{leb_tells, eqb_tells}
 use Rattle.flash_dev.specs.Flash.{overwritten}
 use Rattle.ec_types.specs.declared.bus.BusKind.TheVariants.{Lpc}
-use Rattle.ec_types.specs.declared.reset.ResetCause.TheVariants.{Cold}
 use Rattle.ec_model.specs.declared.event.Access.TheVariants.{PortOut, PortIn}
 use Rattle.ec_model.specs.declared.event.Event.{Event}
 use Rattle.ec_model.specs.declared.event.Event.TheVariants.{Tick}
 use Rattle.ec_model.specs.declared.event.Entry.TheVariants.{Step}
 use Rattle.ec_model.specs.declared.event.Hurt.TheVariants.{Whole}
 use Rattle.ec_model.specs.Packet.{response_packet, response_length}
-use Rattle.ec_model.specs.Bus.{BusState, OnLpc, OnI2c, OnSpi, kind_of, is_busy, low_status}
-use Rattle.ec_model.specs.HostCalls.{HostCall, Did, Waited}
+use Rattle.ec_model.specs.Bus.{kind_of, is_busy, low_status}
+use Rattle.ec_model.specs.HostCalls.{HostCall, Did}
 use Rattle.ec_model.specs.Heard.{Heard, Reply, poll_end, waited_reads, spaced_reads, port_reads, port_writes, is_all_read, reads_on, heard_if, heard_with}
-use Rattle.ec_model.specs.SendLpc.{status_in, LpcSend, LpcWasBlocked, LpcWasUnserved, LpcWasServed}
+use Rattle.ec_model.specs.SendLpc.{status_in, LpcServed, LpcSend, LpcWasBlocked, LpcWasUnserved, LpcWasServed}
 use Rattle.ec_model.specs.Send.{LpcQuiet}
 use Rattle.ec_model.specs.Table.{Table, Awake, Power, Off, On, Core, Valid, IsBusValid, core_of, table_of}
-use Rattle.ec_model.specs.Boot.{booted}
 use Rattle.ec_model.specs.Answer.{Outcome, Answered, Restarts}
 use Rattle.ec_model.specs.Handle.{handled, asked, row_of, admitted_from}
-use Rattle.ec_model.specs.WholeStep.{after_outcome, stepped, stepped_by}
+use Rattle.ec_model.specs.WholeStep.{stepped, stepped_by}
 use Rattle.ec_model.specs.Step.{EventLeavesBy}
-use Rattle.ec_model.specs.Syncable.{settled}
+use Rattle.ec_model.specs.Syncable.{waits_on_lpc, settled_by, settled}
 use Rattle.ec_model.proofs.ValidRows.{IsCoreValid}
 use Rattle.ec_model.proofs.ShortRows.{IsShort}
 use Rattle.ec_model.proofs.ValidStep.{row_of-short}
@@ -32,86 +30,11 @@ use Rattle.host_runs.proofs.Plain.{plain-answered}
 use Rattle.host_runs.proofs.Framed.{framing-append}
 use Rattle.host_runs.proofs.Response.{length-response, read-whole, heard-response}
 use Rattle.host_runs.proofs.LpcLead.{lpc, reads-lead, writes-lead, command-lead, tick-lead, ready-lead}
+use Rattle.host_runs.proofs.LpcFirst.{Idled, idled}
 
 -- a table that is on is its core with its bus
 pub as-table : (table : Table) (awake : Awake) → table.power ≡ On awake → kind_of awake.bus ≡ table.kind → table ≡ table_of (core_of table awake) awake.bus
 as-table table awake on kind = rw (kind, ← on) refl
-
--- a table that is on, with an LPC bus that is not busy, from which calls lead on
-pub record Idled (table : Table) (ready : Bool) (calls : List HostCall) (new : Table) : Type 0 where
-  pub core : Core
-  pub window : List ℕ
-  pub status : ℕ
-  pub outcome : ℕ
-  pub same : table ≡ table_of core (lpc window status outcome)
-  pub idle : is_busy status ≡ false
-  pub ended : ready ≡ true
-  pub lead : CallsLead (table_of core (lpc window status outcome)) calls new
-
--- a table on which no request waits is settled
-settled-idle : (core : Core) (window : List ℕ) (status outcome : ℕ) → (status == 0x06) ≡ false → settled (table_of core (lpc window status outcome)) ≡ table_of core (lpc window status outcome)
-settled-idle core window status outcome other = rw other refl
-
--- a table on which a request waits, once it was served
-settled-served : (core : Core) (window : List ℕ) (outcome : ℕ) (result : Outcome) → handled core 256 window ≡ result →
-    settled (table_of core (lpc window 0x06 outcome)) ≡ (after_outcome core (record { state = lpc window 0x06 outcome; answer = 0 }) 0 result).table
-settled-served core window outcome result same = ap (λ (r : Outcome). (after_outcome core (record { state = lpc window 0x06 outcome; answer = 0 }) 0 r).table) same
-
--- no request waits
-idle-lead : (core : Core) (window : List ℕ) (status outcome : ℕ) (statuses : List ℕ) (ready : Bool) (calls : List HostCall) (new : Table) → is_busy status ≡ false → (status == 0x06) ≡ false → poll_end is_busy 5 statuses ≡ Some ready →
-    CallsLead (table_of core (lpc window status outcome)) (spaced_reads status_in statuses ++ calls) new → Idled (settled (table_of core (lpc window status outcome))) ready calls new
-idle-lead core window status outcome [] ready calls new idle other polled lead = absurd (cc)
-idle-lead core window status outcome (byte ∷ bytes) ready calls new idle other polled lead =
-    let end = ready-lead core window status outcome 4 byte bytes ready calls new idle polled lead in
-    record { core = core; window = window; status = status; outcome = outcome; same = settled-idle core window status outcome other; idle = idle; ended = end.ended; lead = end.lead }
-
--- a request waits, and the first wait has it handled
-served-lead : (core : Core) (window : List ℕ) (outcome next : ℕ) (bytes : List ℕ) (ready : Bool) (calls : List HostCall) (new : Table) (result : Outcome) → handled core 256 window ≡ result → poll_end is_busy 4 (next ∷ bytes) ≡ Some ready →
-    CallsLead (table_of core (lpc window 0x06 outcome)) (Waited ∷ Did status_in next ∷ (waited_reads status_in bytes ++ calls)) new → Idled (settled (table_of core (lpc window 0x06 outcome))) ready calls new
-served-lead core window outcome next bytes ready calls new (Answered after status body) same polled lead =
-    let reply = response_packet status body in
-    let moved = tick-lead core window outcome (Answered after status body) (Did status_in next ∷ (waited_reads status_in bytes ++ calls)) new same lead in
-    let end = ready-lead after (overwritten 0 reply window) 0x01 (low_status reply) 3 next bytes ready calls new refl polled moved in
-    record { core = after; window = overwritten 0 reply window; status = 0x01; outcome = low_status reply; same = settled-served core window outcome _ same; idle = refl; ended = end.ended; lead = end.lead }
-served-lead core window outcome next bytes ready calls new Restarts same polled lead =
-    let fresh = booted core.flash core.pin Cold false in
-    let moved = tick-lead core window outcome Restarts (Did status_in next ∷ (waited_reads status_in bytes ++ calls)) new same lead in
-    let end = ready-lead fresh (replicate 256 0) 0 0 3 next bytes ready calls new refl polled moved in
-    record { core = fresh; window = replicate 256 0; status = 0; outcome = 0; same = settled-served core window outcome _ same; idle = refl; ended = end.ended; lead = end.lead }
-
--- a poll while a request waits
-busy-lead : (core : Core) (window : List ℕ) (outcome : ℕ) (statuses : List ℕ) (ready : Bool) (calls : List HostCall) (new : Table) → poll_end is_busy 5 statuses ≡ Some ready →
-    CallsLead (table_of core (lpc window 0x06 outcome)) (spaced_reads status_in statuses ++ calls) new → Idled (settled (table_of core (lpc window 0x06 outcome))) ready calls new
-busy-lead core window outcome [] ready calls new polled lead = absurd (cc)
-busy-lead core window outcome (byte ∷ []) ready calls new polled lead =
-    let seen : is_busy byte ≡ true = ap (λ (n : ℕ). is_busy n) lead.0 in
-    let ended = rw seen at polled in
-    absurd (cc)
-busy-lead core window outcome (byte ∷ next ∷ bytes) ready calls new polled lead =
-    let seen : is_busy byte ≡ true = ap (λ (n : ℕ). is_busy n) lead.0 in
-    let ended = rw seen at polled in
-    served-lead core window outcome next bytes ready calls new (handled core 256 window) refl ended lead.1
-
--- a valid status is one of three
-which : (status : ℕ) → ((status == 0x00) || (status == 0x01) || (status == 0x06)) ≡ true → (status ≡ 0) ⊎ ((status ≡ 1) ⊎ (status ≡ 6))
-which status shown = grind (arith, eqb_tells)
-
--- a poll, by the status
-by-status : (core : Core) (window : List ℕ) (status outcome : ℕ) (statuses : List ℕ) (ready : Bool) (calls : List HostCall) (new : Table) → (status ≡ 0) ⊎ ((status ≡ 1) ⊎ (status ≡ 6)) → poll_end is_busy 5 statuses ≡ Some ready →
-    CallsLead (table_of core (lpc window status outcome)) (spaced_reads status_in statuses ++ calls) new → Idled (settled (table_of core (lpc window status outcome))) ready calls new
-by-status core window status outcome statuses ready calls new (inl none) polled lead = idle-lead core window status outcome statuses ready calls new (rw none refl) (rw none refl) polled lead
-by-status core window status outcome statuses ready calls new (inr (inl replied)) polled lead = idle-lead core window status outcome statuses ready calls new (rw replied refl) (rw replied refl) polled lead
-by-status core window status outcome statuses ready calls new (inr (inr waiting)) polled lead =
-    let family : ℕ → Type 0 = λ n. CallsLead (table_of core (lpc window n outcome)) (spaced_reads status_in statuses ++ calls) new → Idled (settled (table_of core (lpc window n outcome))) ready calls new in
-    let at_six : family 6 = λ six. busy-lead core window outcome statuses ready calls new polled six in
-    subst family (sym waiting) at_six lead
-
--- the first poll leaves the settled table
-pub idled : (core : Core) (bus : BusState) (statuses : List ℕ) (ready : Bool) (calls : List HostCall) (new : Table) → kind_of bus ≡ Lpc → IsBusValid bus → poll_end is_busy 5 statuses ≡ Some ready →
-    CallsLead (table_of core bus) (spaced_reads status_in statuses ++ calls) new → Idled (settled (table_of core bus)) ready calls new
-idled core (OnLpc state) statuses ready calls new kind valid polled lead = by-status core state.window state.status state.outcome statuses ready calls new (which state.status valid.1) polled lead
-idled core (OnI2c state) statuses ready calls new kind valid polled lead = absurd (cc)
-idled core (OnSpi state) statuses ready calls new kind valid polled lead = absurd (cc)
 
 -- a settled table is valid
 whole-leaves : (table : Table) (event : Event) (power : Power) → EventLeavesBy Whole table event power (stepped_by table event power)
@@ -119,9 +42,9 @@ whole-leaves table event Off = refl
 whole-leaves table event (On awake) = refl
 
 -- a table is valid behind a tick, and without one
-settled-by-valid : (table : Table) (waits : Bool) → Valid table → Valid (if waits then (stepped table Tick).table else table)
-settled-by-valid table true valid = step-valid table (Step Tick (stepped table Tick).answer 0 0 Whole) (stepped table Tick).table valid (whole-leaves table Tick table.power)
-settled-by-valid table false valid = valid
+tick-valid : (table : Table) (waits : Bool) → Valid table → Valid (if waits then (stepped table Tick).table else table)
+tick-valid table true valid = step-valid table (Step Tick (stepped table Tick).answer 0 0 Whole) (stepped table Tick).table valid (whole-leaves table Tick table.power)
+tick-valid table false valid = valid
 
 -- the poll behind a request saw its response at once
 record IsServed (table : Table) (statuses : List ℕ) (ready : Bool) (calls : List HostCall) (new : Table) : Type 0 where
@@ -167,7 +90,7 @@ hear-lead after window status outcome body rest bytes heard new size front short
     record { outcome_is = lead.0; bytes_are = whole.0; heard_is = heard_is ∙ ap (λ (on : Bool). heard_if on (heard_with outcome bytes)) whole.1 ∙ judged; leaves = read.1 }
 
 -- five lists, grouped otherwise
-pub regroup : (a b c d : List HostCall) (x : HostCall) → a ++ b ++ x ∷ [] ++ c ++ d ≡ a ++ (b ++ (x ∷ (c ++ d)))
+regroup : (a b c d : List HostCall) (x : HostCall) → a ++ b ++ x ∷ [] ++ c ++ d ≡ a ++ (b ++ (x ∷ (c ++ d)))
 regroup a b c d x = simp append_assoc
 
 -- four lists, grouped otherwise
@@ -175,12 +98,12 @@ regroup3 : (a b c : List HostCall) (x : HostCall) → a ++ b ++ x ∷ [] ++ c �
 regroup3 a b c x = simp (append_assoc, append-nil)
 
 -- the core and the window of a valid table
-core-valid : (core : Core) (window : List ℕ) (status outcome : ℕ) → Valid (table_of core (lpc window status outcome)) → IsCoreValid core
+pub core-valid : (core : Core) (window : List ℕ) (status outcome : ℕ) → Valid (table_of core (lpc window status outcome)) → IsCoreValid core
 core-valid core window status outcome valid =
-    record { size = valid.size; all_with_ro = valid.power.all_with_ro; jumped = valid.power.jumped; erase = valid.power.erase; hash = valid.power.hash }
+    record { size = valid.size; all_with_ro = valid.power.all_with_ro; jumped = valid.power.jumped; erase = valid.power.erase; hash = valid.power.hash; saved = valid.power.saved }
 
 -- the window of a valid table has 256 bytes
-window-whole : (core : Core) (window : List ℕ) (status outcome : ℕ) → Valid (table_of core (lpc window status outcome)) → length window ≡ 256
+pub window-whole : (core : Core) (window : List ℕ) (status outcome : ℕ) → Valid (table_of core (lpc window status outcome)) → length window ≡ 256
 window-whole core window status outcome valid = valid.power.bus.0
 
 -- the calls behind the first poll
@@ -254,19 +177,19 @@ asked-by core window status outcome packet gots got statuses ready tail new (Ans
     }
 
 -- the same behind the first poll
-asked-from : (table : Table) (packet gots : List ℕ) (got : ℕ) (statuses : List ℕ) (first ready : Bool) (tail : List HostCall) (new : Table) → Valid table → IsPlain packet → length packet ≤ 256 → length gots ≡ length packet → poll_end is_busy 4 statuses ≡ Some ready →
-    (at : Idled table first (served_calls packet gots got statuses tail) new) → Asked at.core packet gots got statuses ready tail new
-asked-from table packet gots got statuses first ready tail new valid plain short each polled at =
+asked-from : (table : Table) (seen packet gots : List ℕ) (got : ℕ) (statuses : List ℕ) (first ready : Bool) (tail : List HostCall) (new : Table) → Valid (settled table) → IsPlain packet → length packet ≤ 256 → length gots ≡ length packet → poll_end is_busy 4 statuses ≡ Some ready →
+    (at : Idled table seen first (served_calls packet gots got statuses tail) new) → Asked at.core packet gots got statuses ready tail new
+asked-from table seen packet gots got statuses first ready tail new valid plain short each polled at =
     let placed = subst (λ (t : Table). Valid t) at.same valid in
     let valid_core = core-valid at.core at.window at.status at.outcome placed in
     asked-by at.core at.window at.status at.outcome packet gots got statuses ready tail new (handled at.core 256 packet) (window-whole at.core at.window at.status at.outcome placed) at.idle plain short each polled refl (plain-answered packet at.core 256 plain) (row_of-short at.core (asked at.core packet) valid_core) at.lead
 
 -- the whole of a send that was served, from the settled table
-served-whole : (table : Table) (packet gots : List ℕ) (got : ℕ) (statuses : List ℕ) (first : Bool) (outcome : ℕ) (bytes : List ℕ) (heard : Heard) (new : Table) → Valid table → IsPlain packet → length packet ≤ 256 → length gots ≡ length packet → poll_end is_busy 4 statuses ≡ Some true →
+served-whole : (table : Table) (seen packet gots : List ℕ) (got : ℕ) (statuses : List ℕ) (first : Bool) (outcome : ℕ) (bytes : List ℕ) (heard : Heard) (new : Table) → Valid (settled table) → IsPlain packet → length packet ≤ 256 → length gots ≡ length packet → poll_end is_busy 4 statuses ≡ Some true →
     is_all_read (reads_on 248 bytes) bytes ≡ true → heard ≡ heard_if (reads_on 248 bytes) (heard_with outcome bytes) →
-    Idled table first (served_calls packet gots got statuses (Did (PortIn 0x200) outcome ∷ port_reads 0x800 bytes)) new → Serves packet table heard new
-served-whole table packet gots got statuses first outcome bytes heard new valid plain short each polled all heard_is at =
-    let asks = asked-from table packet gots got statuses first true (Did (PortIn 0x200) outcome ∷ port_reads 0x800 bytes) new valid plain short each polled at in
+    Idled table seen first (served_calls packet gots got statuses (Did (PortIn 0x200) outcome ∷ port_reads 0x800 bytes)) new → Serves packet (settled table) heard new
+served-whole table seen packet gots got statuses first outcome bytes heard new valid plain short each polled all heard_is at =
+    let asks = asked-from table seen packet gots got statuses first true (Did (PortIn 0x200) outcome ∷ port_reads 0x800 bytes) new valid plain short each polled at in
     let answers = asks.answers in
     let hears = hear-lead asks.after answers.window asks.status outcome asks.body answers.rest bytes heard new answers.size answers.front asks.short all heard_is answers.lead in
     let bus = lpc at.window at.status at.outcome in
@@ -284,26 +207,6 @@ served-whole table packet gots got statuses first outcome bytes heard new valid 
     } in
     subst (λ (t : Table). Serves packet t heard new) (sym at.same) serves
 
--- the entry table of a call, with its core and its bus
-pub lead-at : (table : Table) (awake : Awake) (calls : List HostCall) (new : Table) → table ≡ table_of (core_of table awake) awake.bus → CallsLead table calls new → CallsLead (table_of (core_of table awake) awake.bus) calls new
-lead-at table awake calls new same lead = subst (λ (t : Table). CallsLead t calls new) same lead
-
--- the settled table, with its core and its bus apart
-settled-by-awake : (table : Table) (awake : Awake) → table ≡ table_of (core_of table awake) awake.bus → settled (table_of (core_of table awake) awake.bus) ≡ settled table
-settled-by-awake table awake same = ap (λ (t : Table). settled t) (sym same)
-
--- a settled table is valid
-pub settled-valid : (table : Table) (awake : Awake) → table ≡ table_of (core_of table awake) awake.bus → Valid table → Valid (settled (table_of (core_of table awake) awake.bus))
-settled-valid table awake same valid = settled-by-valid (table_of (core_of table awake) awake.bus) _ (subst (λ (t : Table). Valid t) same valid)
-
--- the first poll of a send from a valid table
-idled-at : (table : Table) (awake : Awake) (statuses : List ℕ) (ready : Bool) (calls tail : List HostCall) (new : Table) → Valid table → table.power ≡ On awake → table.kind ≡ Lpc → kind_of awake.bus ≡ table.kind → IsBusValid awake.bus → poll_end is_busy 5 statuses ≡ Some ready →
-    calls ≡ spaced_reads status_in statuses ++ tail → CallsLead table calls new → Idled (settled (table_of (core_of table awake) awake.bus)) ready tail new
-idled-at table awake statuses ready calls tail new valid on lpc_kind kind bus polled grouped lead =
-    let same = as-table table awake on kind in
-    let led = subst (λ (xs : List HostCall). CallsLead (table_of (core_of table awake) awake.bus) xs new) grouped (lead-at table awake calls new same lead) in
-    idled (core_of table awake) awake.bus statuses ready tail new (kind ∙ lpc_kind) bus polled led
-
 -- what a valid table that is on says of its bus
 pub record BusFacts (table : Table) (awake : Awake) : Type 0 where
   pub kind : kind_of awake.bus ≡ table.kind
@@ -314,34 +217,51 @@ pub record BusFacts (table : Table) (awake : Awake) : Type 0 where
 pub bus-facts : (table : Table) (awake : Awake) → Valid table → table.power ≡ On awake → BusFacts table awake
 bus-facts table awake valid on =
     let awake_valid = rw on at valid.power in
-    record { kind = awake_valid.bus_kind; valid = awake_valid.bus; core = record { size = valid.size; all_with_ro = awake_valid.all_with_ro; jumped = awake_valid.jumped; erase = awake_valid.erase; hash = awake_valid.hash } }
+    record { kind = awake_valid.bus_kind; valid = awake_valid.bus; core = record { size = valid.size; all_with_ro = awake_valid.all_with_ro; jumped = awake_valid.jumped; erase = awake_valid.erase; hash = awake_valid.hash; saved = awake_valid.saved } }
+
+-- a settled table is valid
+pub settled-valid : (table : Table) → Valid table → Valid (settled table)
+settled-valid table valid = settled-valid-by table table.power refl valid
+  where
+    settled-valid-by : (table : Table) (power : Power) → table.power ≡ power → Valid table → Valid (settled_by table power)
+    settled-valid-by table Off same valid = valid
+    settled-valid-by table (On awake) same valid = tick-valid table (waits_on_lpc awake.bus) valid
+
+-- the first poll of a send from a valid table
+pub idled-at : (table : Table) (awake : Awake) (statuses : List ℕ) (ready : Bool) (calls tail : List HostCall) (new : Table) → Valid table → table.power ≡ On awake → table.kind ≡ Lpc → poll_end is_busy 5 statuses ≡ Some ready →
+    calls ≡ spaced_reads status_in statuses ++ tail → CallsLead table calls new → Idled table statuses ready tail new
+idled-at table awake statuses ready calls tail new valid on kind polled grouped lead =
+    let facts = bus-facts table awake valid on in
+    let same = as-table table awake on facts.kind in
+    let led = subst (λ (t : Table). CallsLead t (spaced_reads status_in statuses ++ tail) new) same (subst (λ (xs : List HostCall). CallsLead table xs new) grouped lead) in
+    subst (λ (t : Table). Idled t statuses ready tail new) (sym same) (idled (core_of table awake) awake.bus statuses ready tail new (facts.kind ∙ kind) facts.valid polled led)
+
+-- the calls of a send that was served, behind its first poll
+pub served-made : (packet : List ℕ) (calls : List HostCall) (heard : Heard) (served : LpcServed packet calls heard) →
+    calls ≡ spaced_reads status_in served.asked.statuses ++ served_calls packet served.asked.gots served.asked.got served.statuses (Did (PortIn 0x200) served.outcome ∷ port_reads 0x800 served.bytes)
+served-made packet calls heard served =
+    let asked = served.asked in
+    let tail = Did (PortIn 0x200) served.outcome ∷ port_reads 0x800 served.bytes in
+    served.made ∙ ap (λ (xs : List HostCall). xs ++ waited_reads status_in served.statuses ++ tail) asked.made ∙ regroup (spaced_reads status_in asked.statuses) (port_writes 0x800 packet asked.gots) (waited_reads status_in served.statuses) tail (Did (PortOut 0x204 0xDA) asked.got)
 
 -- an undisturbed send is served on the settled table
 pub lpc-calm : (table : Table) (awake : Awake) (packet : List ℕ) (calls : List HostCall) (heard : Heard) (new : Table) → Valid table → table.power ≡ On awake → table.kind ≡ Lpc → IsPlain packet → length packet ≤ 256 →
     LpcSend packet calls heard → CallsLead table calls new → Serves packet (settled table) heard new
 lpc-calm table awake packet calls heard new valid on kind plain short (LpcWasBlocked blocked silent) lead =
-    let facts = bus-facts table awake valid on in
-    let at = idled-at table awake blocked.statuses false calls [] new valid on kind facts.kind facts.valid blocked.busy (blocked.made ∙ sym (append-nil (spaced_reads status_in blocked.statuses))) lead in
+    let at = idled-at table awake blocked.statuses false calls [] new valid on kind blocked.busy (blocked.made ∙ sym (append-nil (spaced_reads status_in blocked.statuses))) lead in
     absurd (let e : false ≡ true = at.ended in cc)
 lpc-calm table awake packet calls heard new valid on kind plain short (LpcWasUnserved unserved silent) lead =
-    let facts = bus-facts table awake valid on in
     let asked = unserved.asked in
-    let same = as-table table awake on facts.kind in
     let grouped : calls ≡ spaced_reads status_in asked.statuses ++ served_calls packet asked.gots asked.got unserved.statuses [] =
     unserved.made ∙ ap (λ (xs : List HostCall). xs ++ waited_reads status_in unserved.statuses) asked.made ∙ regroup3 (spaced_reads status_in asked.statuses) (port_writes 0x800 packet asked.gots) (waited_reads status_in unserved.statuses) (Did (PortOut 0x204 0xDA) asked.got) in
-    let at = idled-at table awake asked.statuses true calls (served_calls packet asked.gots asked.got unserved.statuses []) new valid on kind facts.kind facts.valid asked.idle grouped lead in
-    let asks = asked-from _ packet asked.gots asked.got unserved.statuses true false [] new (settled-valid table awake same valid) plain short asked.each unserved.busy at in
+    let at = idled-at table awake asked.statuses true calls (served_calls packet asked.gots asked.got unserved.statuses []) new valid on kind asked.idle grouped lead in
+    let asks = asked-from table asked.statuses packet asked.gots asked.got unserved.statuses true false [] new (settled-valid table valid) plain short asked.each unserved.busy at in
     absurd (let e : false ≡ true = asks.answers.ended in cc)
 lpc-calm table awake packet calls heard new valid on kind plain short (LpcWasServed served) lead =
-    let facts = bus-facts table awake valid on in
     let asked = served.asked in
-    let same = as-table table awake on facts.kind in
     let tail = Did (PortIn 0x200) served.outcome ∷ port_reads 0x800 served.bytes in
-    let grouped : calls ≡ spaced_reads status_in asked.statuses ++ served_calls packet asked.gots asked.got served.statuses tail =
-    served.made ∙ ap (λ (xs : List HostCall). xs ++ waited_reads status_in served.statuses ++ tail) asked.made ∙ regroup (spaced_reads status_in asked.statuses) (port_writes 0x800 packet asked.gots) (waited_reads status_in served.statuses) tail (Did (PortOut 0x204 0xDA) asked.got) in
-    let at = idled-at table awake asked.statuses true calls (served_calls packet asked.gots asked.got served.statuses tail) new valid on kind facts.kind facts.valid asked.idle grouped lead in
-    subst (λ (t : Table). Serves packet t heard new) (settled-by-awake table awake same)
-    (served-whole (settled (table_of (core_of table awake) awake.bus)) packet asked.gots asked.got served.statuses true served.outcome served.bytes heard new (settled-valid table awake same valid) plain short asked.each served.idle served.whole served.heard_is at)
+    let at = idled-at table awake asked.statuses true calls (served_calls packet asked.gots asked.got served.statuses tail) new valid on kind asked.idle (served-made packet calls heard served) lead in
+    served-whole table asked.statuses packet asked.gots asked.got served.statuses true served.outcome served.bytes heard new (settled-valid table valid) plain short asked.each served.idle served.whole served.heard_is at
 
 -- a status that is not busy is none of a request that waits
 six-or : (status : ℕ) (six : Bool) → (status == 0x06) ≡ six → is_busy status ≡ false → six ≡ false
@@ -359,9 +279,7 @@ idle-is-not-six status idle = six-or status (status == 0x06) refl idle
 -- a poll leaves the settled table, and no request waits
 pub lpc-quiet : (table : Table) (awake : Awake) (calls : List HostCall) (new : Table) → Valid table → table.power ≡ On awake → table.kind ≡ Lpc → LpcQuiet calls → CallsLead table calls new → Settles (settled table) new
 lpc-quiet table awake calls new valid on kind quiet lead =
-    let facts = bus-facts table awake valid on in
-    let same = as-table table awake on facts.kind in
-    let at = idled-at table awake quiet.statuses quiet.ready calls [] new valid on kind facts.kind facts.valid quiet.polled (quiet.made ∙ sym (append-nil (spaced_reads status_in quiet.statuses))) lead in
+    let at = idled-at table awake quiet.statuses quiet.ready calls [] new valid on kind quiet.polled (quiet.made ∙ sym (append-nil (spaced_reads status_in quiet.statuses))) lead in
     let bus = lpc at.window at.status at.outcome in
     let none = idle-is-not-six at.status at.idle in
     let settles : Settles (table_of at.core bus) new =
@@ -371,4 +289,4 @@ lpc-quiet table awake calls new valid on kind quiet lead =
       leaves = record { bus = bus; same = at.lead; none_waits = rw none refl };
       kind = ap (λ (t : Table). t.kind) at.lead;
     } in
-    subst (λ (t : Table). Settles t new) (settled-by-awake table awake same) (subst (λ (t : Table). Settles t new) (sym at.same) settles)
+    subst (λ (t : Table). Settles t new) (sym at.same) settles

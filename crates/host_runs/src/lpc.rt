@@ -15,7 +15,7 @@ ghost use Rattle.ec_model.specs.Syncable.{settled};
 ghost use Rattle.ec_model.specs.Upset.{IsUndisturbed};
 ghost use Rattle.ec_wire.specs.Calls.{is_wire_step};
 ghost use Rattle.host_runs.specs.Calm.{CallsLead};
-ghost use Rattle.host_runs.specs.Exchange.{ShowsIdle, Exchanges, IsExchange};
+ghost use Rattle.host_runs.specs.Exchange.{first_statuses, Exchanges, IsExchange};
 ghost use Rattle.host_runs.specs.Resting.{Rests};
 ghost use Rattle.host_runs.specs.Served.{IsPlain, Serves, Settles};
 
@@ -29,18 +29,19 @@ pub fn lpc_sends()
         table.power ≡ Off → SendsBy Lpc packet calls heard → CallsLead table calls new → heard ≡ Silent }
 {}
 
-/// An undisturbed send from a bus that is not busy is one exchange, call by call and entry by entry.
+/// An undisturbed send to a controller that is on is one exchange, call by call and entry by entry: the request that waits
+/// is served, and then the packet is handled.
 pub fn lpc_exchanges()
-    ensures calls { (table : Table) (awake : Awake) (status : ℕ) (packet : List ℕ) (calls : List HostCall) (heard : Heard) (new : Table)
-        (after : Core) (result : ℕ) (body : List ℕ) → Valid table → table.power ≡ On awake → ShowsIdle status awake.bus →
+    ensures calls { (table : Table) (awake : Awake) (packet : List ℕ) (calls : List HostCall) (heard : Heard) (new : Table)
+        (after : Core) (result : ℕ) (body : List ℕ) → Valid table → table.kind ≡ Lpc → (settled table).power ≡ On awake →
         IsPlain packet → length packet ≤ 256 → SendsBy Lpc packet calls heard → CallsLead table calls new →
-        handled (core_of table awake) 256 packet ≡ Answered after result body →
-        Exchanges status packet (response_packet result body) after calls heard new }
-    ensures entries { (table : Table) (awake : Awake) (status : ℕ) (packet : List ℕ) (added : List Entry) (heard : Heard) (new : Table)
-        (after : Core) (result : ℕ) (body : List ℕ) → Valid table → table.power ≡ On awake → ShowsIdle status awake.bus →
+        handled (core_of (settled table) awake) 256 packet ≡ Answered after result body →
+        Exchanges (first_statuses table) packet (response_packet result body) after calls heard new }
+    ensures entries { (table : Table) (awake : Awake) (packet : List ℕ) (added : List Entry) (heard : Heard) (new : Table)
+        (after : Core) (result : ℕ) (body : List ℕ) → Valid table → table.kind ≡ Lpc → (settled table).power ≡ On awake →
         IsPlain packet → length packet ≤ 256 → Send Lpc added packet heard → IsRun table added new → IsUndisturbed added →
-        IsTrue (list_all is_wire_step added) → handled (core_of table awake) 256 packet ≡ Answered after result body →
-        IsExchange status packet (response_packet result body) after added heard new }
+        IsTrue (list_all is_wire_step added) → handled (core_of (settled table) awake) 256 packet ≡ Answered after result body →
+        IsExchange (first_statuses table) packet (response_packet result body) after added heard new }
 {}
 
 /// Where the bus of a controller that is on is brought to rest, and nothing disturbs that, the request that waits was
