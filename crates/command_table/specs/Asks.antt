@@ -1,13 +1,13 @@
 -- What the code reads in a request.
 use Rattle.std.specs.Prelude.{◌≡◌, ℕ, ◌==◌, if◌then◌else◌, List, [], IsTrue, IsFalse, Option, Some, None, Result, Ok, Err}
-use Rattle.ec_model.specs.Commands.{Command, CommandLine, is_spelled, Proto, Hello, Chip, CmdVersions, Test, ProtoInfo, FlashInfo, FlashRead, FlashWrite, FlashProtect, RegionInfo}
-use Rattle.ec_model.specs.Bodies.{hello_ask, cmd_versions_ask0, cmd_versions_ask1, test_ask, region_info_ask, flash_read_ask, flash_write_ask, flash_protect_ask}
+use Rattle.ec_model.specs.Commands.{Command, CommandLine, is_spelled, Proto, Hello, Chip, CmdVersions, Comms, Test, ProtoInfo, FlashInfo, FlashRead, FlashWrite, FlashErase, FlashProtect, RegionInfo, Resend}
+use Rattle.ec_model.specs.Bodies.{hello_ask, cmd_versions_ask0, cmd_versions_ask1, test_ask, region_info_ask, flash_read_ask, flash_write_ask, flash_erase_ask, flash_protect_ask}
 use Rattle.ec_model.specs.Packet.{RequestView}
 use Rattle.ec_model.specs.Handle.{Admitted}
 use Rattle.command_table.specs.declared.asks.Question.{Question}
-use Rattle.command_table.specs.declared.asks.Question.TheVariants.{Proto as AsksProto, Hello as AsksHello, Chip as AsksChip, CmdVersions as AsksVersions, Test as AsksTest, ProtoInfo as AsksProtoInfo, FlashInfo as AsksFlashInfo, RegionInfo as AsksRegion}
+use Rattle.command_table.specs.declared.asks.Question.TheVariants.{Proto as AsksProto, Hello as AsksHello, Chip as AsksChip, CmdVersions as AsksVersions, Comms as AsksComms, Test as AsksTest, ProtoInfo as AsksProtoInfo, FlashInfo as AsksFlashInfo, RegionInfo as AsksRegion}
 use Rattle.command_table.specs.declared.asks.Ask.{Ask}
-use Rattle.command_table.specs.declared.asks.Ask.TheVariants.{Question as Asks, FlashRead as AsksRead, FlashWrite as AsksWrite, FlashProtect as AsksProtect}
+use Rattle.command_table.specs.declared.asks.Ask.TheVariants.{Question as Asks, FlashRead as AsksRead, FlashWrite as AsksWrite, FlashErase as AsksErase, FlashProtect as AsksProtect, Resend as AsksResend}
 
 -- the command of a question
 abbrev pub question_command : Question → Command
@@ -15,6 +15,7 @@ question_command AsksProto = Proto
 question_command (AsksHello ask) = Hello
 question_command AsksChip = Chip
 question_command (AsksVersions command) = CmdVersions
+question_command AsksComms = Comms
 question_command (AsksTest ask) = Test
 question_command AsksProtoInfo = ProtoInfo
 question_command AsksFlashInfo = FlashInfo
@@ -25,7 +26,9 @@ abbrev pub command_of : Ask → Command
 command_of (Asks question) = question_command question
 command_of (AsksRead ask) = FlashRead
 command_of (AsksWrite ask) = FlashWrite
+command_of (AsksErase ask) = FlashErase
 command_of (AsksProtect ask) = FlashProtect
+command_of AsksResend = Resend
 
 -- the body that names a command, in each version
 abbrev pub named : ℕ → ℕ → List ℕ
@@ -44,7 +47,9 @@ abbrev pub body_of : ℕ → Ask → List ℕ
 body_of version (Asks question) = question_body version question
 body_of version (AsksRead ask) = flash_read_ask ask.offset ask.size
 body_of version (AsksWrite ask) = flash_write_ask ask.offset ask.bytes.now
+body_of version (AsksErase ask) = flash_erase_ask ask.offset ask.size
 body_of version (AsksProtect ask) = flash_protect_ask ask.mask ask.flags
+body_of version AsksResend = []
 
 -- what a body says to the command of a line: nothing exactly where it is no spelling
 abbrev pub IsAskOf : Option CommandLine → ℕ → List ℕ → Option Ask → Type 0

@@ -1,12 +1,11 @@
 // What a request asks: its command, with the fields of its body.
 ghost use Rattle.std.specs.Prelude.{◌≡◌, ◌==◌, ◌↔◌, if◌then◌else◌, length, IsSome, IfSome};
 ghost use Rattle.ec_model.specs.Commands.{line_of};
-ghost use Rattle.command_table.specs.declared.asks.Ask.TheVariants.{Question as Asks};
 ghost use Rattle.command_table.specs.Asks.{named, IsAskOf};
 
 use ec_params::{
-    CmdVersionsAsk0, CmdVersionsAsk1, FlashProtectAsk, FlashReadAsk, FlashWriteAskRef, HelloAsk,
-    RegionInfoAsk, TestAsk,
+    CmdVersionsAsk0, CmdVersionsAsk1, FlashEraseAsk, FlashProtectAsk, FlashReadAsk,
+    FlashWriteAskRef, HelloAsk, RegionInfoAsk, TestAsk,
 };
 
 /// The commands that only ask, and read no byte of the flash.
@@ -17,6 +16,7 @@ pub enum Question {
     Chip,
     /// Of the command with this number.
     CmdVersions(u16),
+    Comms,
     Test(TestAsk),
     ProtoInfo,
     FlashInfo,
@@ -29,19 +29,17 @@ pub enum Ask<'a> {
     Question(Question),
     FlashRead(FlashReadAsk),
     FlashWrite(FlashWriteAskRef<'a>),
+    FlashErase(FlashEraseAsk),
     FlashProtect(FlashProtectAsk),
+    Resend,
 }
 
-// A question whose body is empty.
-fn alone<'a>(body: &'a [u8], question: Question) -> Option<Ask<'a>>
+// A command whose body is empty.
+fn alone<'a>(body: &'a [u8], ask: Ask<'a>) -> Option<Ask<'a>>
     ensures some { IsSome result ↔ (length body.now ≡ 0) }
-    ensures same { IfSome result (λ ask. ask ≡ Asks question) }
+    ensures same { IfSome result (λ read. read ≡ ask.entry) }
 {
-    if body.is_empty() {
-        Some(Ask::Question(question))
-    } else {
-        None
-    }
+    if body.is_empty() { Some(ask) } else { None }
 }
 
 // The command whose versions are asked for.
@@ -61,17 +59,20 @@ pub fn ask_of<'a>(command: u16, version: u8, body: &'a [u8]) -> Option<Ask<'a>>
     ensures { IsAskOf (line_of command) version body.now result }
 {
     match command {
-        0x0000 => alone(body, Question::Proto),
+        0x0000 => alone(body, Ask::Question(Question::Proto)),
         0x0001 => Some(Ask::Question(Question::Hello(HelloAsk::read(body)?))),
-        0x0005 => alone(body, Question::Chip),
+        0x0005 => alone(body, Ask::Question(Question::Chip)),
         0x0008 => Some(Ask::Question(Question::CmdVersions(named(version, body)?))),
+        0x0009 => alone(body, Ask::Question(Question::Comms)),
         0x000A => Some(Ask::Question(Question::Test(TestAsk::read(body)?))),
-        0x000B => alone(body, Question::ProtoInfo),
-        0x0010 => alone(body, Question::FlashInfo),
+        0x000B => alone(body, Ask::Question(Question::ProtoInfo)),
+        0x0010 => alone(body, Ask::Question(Question::FlashInfo)),
         0x0011 => Some(Ask::FlashRead(FlashReadAsk::read(body)?)),
         0x0012 => Some(Ask::FlashWrite(FlashWriteAskRef::read(body)?)),
+        0x0013 => Some(Ask::FlashErase(FlashEraseAsk::read(body)?)),
         0x0015 => Some(Ask::FlashProtect(FlashProtectAsk::read(body)?)),
         0x0016 => Some(Ask::Question(Question::RegionInfo(RegionInfoAsk::read(body)?))),
+        0x00DB => alone(body, Ask::Resend),
         _ => None,
     }
 }

@@ -1,10 +1,10 @@
 // The commands that only ask.
-ghost use Rattle.std.specs.Prelude.{◌≡◌, ◌≤◌, length};
+ghost use Rattle.std.specs.Prelude.{◌≡◌, ◌≤◌, length, is_some};
 ghost use Rattle.ec_model.specs.declared.event.Hurt.TheVariants.{Whole};
 ghost use Rattle.ec_model.specs.Table.{Core};
 ghost use Rattle.ec_model.specs.Bodies.{hello_ask, test_ask, region_info_ask};
 ghost use Rattle.ec_model.specs.Answer.{Answered};
-ghost use Rattle.ec_model.specs.InfoRows.{zero_padded, hello_row, chip_row, mask_told, test_row, flash_info_row, region_info_row};
+ghost use Rattle.ec_model.specs.InfoRows.{zero_padded, hello_row, chip_row, mask_told, comms_row, test_row, flash_info_row, region_info_row};
 ghost use Rattle.ec_model.specs.Commands.{known};
 ghost use Rattle.ec_model.specs.Handle.{row};
 ghost use Rattle.command_table.specs.Asks.{question_command, question_body};
@@ -13,8 +13,8 @@ use crate::Reply;
 use crate::asks::Question;
 use ec_packet::Packet;
 use ec_params::{
-    ChipSay, CmdVersionsSay, FlashInfoSay0, FlashInfoSay1, HelloSay, ProtoInfoSay, ProtoSay,
-    RegionInfoSay, TestAsk, TestSay, known,
+    ChipSay, CmdVersionsSay, CommsSay, FlashInfoSay0, FlashInfoSay1, HelloSay, ProtoInfoSay,
+    ProtoSay, RegionInfoSay, TestAsk, TestSay, known,
 };
 use flash_dev::{Geometry, Region};
 
@@ -69,6 +69,19 @@ fn cmd_versions(command: u16, reply: &mut Reply)
         }
         None => reply.refuse(3),
     }
+}
+
+// GET_COMMS_STATUS.
+fn comms(erasing: bool, reply: &mut Reply)
+    ensures row { (core : Core) → is_some core.live.erase ≡ erasing → comms_row core ≡ Answered core reply.new.status reply.new.body }
+    ensures hurt { reply.new.hurt ≡ Whole }
+    ensures short { length reply.new.body ≤ 96 }
+{
+    let say = CommsSay {
+        flags: u32::from(erasing),
+    };
+    reply.succeed();
+    say.write(&mut reply.body);
 }
 
 // TEST_PROTOCOL.
@@ -135,9 +148,16 @@ fn region_info(region: u32, geometry: Geometry, reply: &mut Reply)
     }
 }
 
-/// Answers a question. `limit` is the most bytes of a packet on the bus.
-pub fn tell(question: Question, version: u8, limit: u16, geometry: Geometry, reply: &mut Reply)
-    ensures row { (core : Core) → length core.flash ≡ geometry →
+/// Answers a question. `limit` is the most bytes of a packet on the bus, and `erasing` says that an erase is pending.
+pub fn tell(
+    question: Question,
+    version: u8,
+    limit: u16,
+    geometry: Geometry,
+    erasing: bool,
+    reply: &mut Reply,
+)
+    ensures row { (core : Core) → length core.flash ≡ geometry → is_some core.live.erase ≡ erasing →
         row core limit (question_command question) version (question_body version question) ≡ Answered core reply.new.status reply.new.body }
     ensures hurt { reply.new.hurt ≡ Whole }
     ensures short { length reply.new.body ≤ 96 }
@@ -150,6 +170,7 @@ pub fn tell(question: Question, version: u8, limit: u16, geometry: Geometry, rep
         Question::Hello(ask) => hello(ask.x, reply),
         Question::Chip => chip(reply),
         Question::CmdVersions(command) => cmd_versions(command, reply),
+        Question::Comms => comms(erasing, reply),
         Question::Test(ask) => test(ask, reply),
         Question::ProtoInfo => {
             let say = ProtoInfoSay {
