@@ -1,8 +1,7 @@
 -- What a request leaves, by its answer.
-use Rattle.std.proofs.Common.{◌≡◌, refl, sym, ap, ◌∙◌, subst, ℕ, ◌-◌, ◌≤◌, Bool, true, List, [], length, Option, Some, None, Result, Ok, Err, inl, inr, arith}
+use Rattle.std.proofs.Common.{◌≡◌, refl, sym, ap, ◌∙◌, subst, ℕ, ◌-◌, ◌≤◌, Bool, List, [], length, Option, Some, None, Result, Ok, Err, inl, inr, arith}
 use Rattle.std.specs.Prelude.{option_map, ◌⊎◌, IsTrue, IsNone}
 use Rattle.flash_dev.specs.Told.{Changes}
-use Rattle.flash_dev.specs.Device.{DeviceView}
 use Rattle.ec_types.specs.declared.status.Status.{Status}
 use Rattle.ec_types.specs.declared.bus.BusKind.{BusKind}
 use Rattle.ec_types.specs.declared.bus.BusKind.TheVariants.{Lpc, I2c, Spi}
@@ -12,27 +11,25 @@ use Rattle.ec_model.specs.declared.event.Hurt.TheVariants.{Whole, Failed, Cut}
 use Rattle.ec_model.specs.declared.event.Event.{Event}
 use Rattle.ec_model.specs.Packet.{RequestView, framing, response_packet}
 use Rattle.ec_model.specs.Bus.{BusState, BusAnswer, due_now, OnLpc, OnI2c, OnSpi, kind_of, replied}
-use Rattle.ec_model.specs.Table.{Core, Table, table_of, off_table}
+use Rattle.ec_model.specs.Table.{Core, table_of, off_table}
 use Rattle.ec_model.specs.Answer.{Outcome, Answered, Restarts}
 use Rattle.ec_model.specs.Handle.{admitted, admitted_from, asked, row_of, operations_by, handled, handled_reads, handled_operations}
-use Rattle.ec_model.specs.Work.{Work, Serve, After as AfterEvent, work_on, lost_answer, operations_of, work_operations}
+use Rattle.ec_model.specs.Work.{Serve, After as AfterEvent, work_on, lost_answer}
 use Rattle.ec_model.specs.WholeStep.{after_outcome}
 use Rattle.ec_model.specs.Step.{WorkLeaves, after_unread, outcome_reads, error_replied, failed_core}
 use Rattle.ec_packet.specs.declared.request.Request.{Request}
 use Rattle.ec_packet.specs.Read.{request_view, IsReadAs}
 use Rattle.ec_wire.specs.Dues.{asked_of}
 use Rattle.ec_boot.specs.States.{RunView, OffView, core_at, told_core, Follows}
-use Rattle.flash_protect.specs.Spent.{Costs, RisesAtMost}
 use Rattle.command_table.specs.declared.table.After.{After}
 use Rattle.ec_boot.specs.Ran.{IsStopped}
 use Rattle.command_table.specs.Leaves.{FoundLeaves, HasReply}
 use Rattle.command_table.specs.After.{IsAnswered, IsLostIn, StaysOn, GoesOff}
-use Rattle.ec_core.specs.View.{WearsBy}
-use Rattle.ec_core.specs.Held.{awake_of, up_table, down_table, answer_by, IsSpent}
+use Rattle.ec_core.specs.Held.{awake_of, up_table, down_table, answer_by}
 use Rattle.ec_core.specs.Task.{IsTakenUp, IsStepped}
 use Rattle.ec_core.specs.declared.held.Held.TheVariants.{Down, Up}
 use Rattle.ec_core.specs.declared.task.Task.TheVariants.{Serve as ServeTask}
-use Rattle.ec_core.proofs.TaskLemmas.{WorkTold, event-told, on_by, step-up, stays, unspent}
+use Rattle.ec_core.proofs.TaskLemmas.{WorkTold, event-told, step-up, stays, unspent, on-alive, spent-in, work-wears}
 
 read-ok : (read : Result RequestView ℕ) (request : Request) → IsReadAs read (Ok request) → read ≡ Ok (request_view request)
 read-ok (Ok view) request same = ap (λ (v : RequestView). let r : Result RequestView ℕ = Ok v in r) (sym same)
@@ -156,27 +153,9 @@ replied-none packet (OnSpi state) = refl
 same-some : (a b : List ℕ) (o : Option (List ℕ)) → o ≡ Some a → o ≡ Some b → a ≡ b
 same-some a b o first second = cc
 
-on-alive : (hurt : Hurt) → (hurt ≡ Cut → ⊥) → true ≡ on_by hurt true
-on-alive Whole alive = refl
-on-alive Failed alive = refl
-on-alive Cut alive = absurd (alive refl)
-
--- a request reads less than a tick may
-spent-more : (hurt : Hurt) (limit : ℕ) (old new : DeviceView) → IsLimit limit → Costs hurt (limit - 8) old new → IsSpent hurt old new
-spent-more hurt limit old new is spent =
-    record { extent = spent.extent; faults = spent.faults; cuts = spent.cuts; rose = spent.rose; fetched = record { least = spent.fetched.least; most = omega (arith, spent.fetched.most) } }
-
--- the operations of an event are those of the request that it has served
-served-wear : (event : Event) (old_bus : BusState) (run : RunView) (bytes : List ℕ) (worn : ℕ) → work_on (awake_of run old_bus) event ≡ Serve bytes →
-    ((core : Core) → told_core run ≡ Some core → RisesAtMost (length (operations_by core (asked core bytes))) run.device.wear worn) → WearsBy event (up_table old_bus run) run.device.wear worn
-served-wear event old_bus run bytes worn work_is wear table told = by run.device.held told (λ core is. wear core is) where
-  by : (o : Option (List ℕ)) → option_map (λ flash. table_of (core_at run flash) old_bus) o ≡ Some table →
-      ((core : Core) → option_map (core_at run) o ≡ Some core → RisesAtMost (length (operations_by core (asked core bytes))) run.device.wear worn) → RisesAtMost (length (operations_of table event)) run.device.wear worn
-  by None same here = cc
-  by (Some f) same here =
-      let table_is : table_of (core_at run f) old_bus ≡ table = cc in
-      subst (λ (t : Table). RisesAtMost (length (operations_of t event)) run.device.wear worn) table_is
-      (subst (λ (w : Work). RisesAtMost (length (work_operations (core_at run f) w)) run.device.wear worn) (sym work_is) (here (core_at run f) refl))
+-- a request reads less than an event may
+short-of : (kind : BusKind) → packet_limit kind - 8 ≤ 1024
+short-of kind = let is = limits kind in omega (arith, is.most)
 
 -- a request that was answered
 pub served-up : {F : Type 0} (kind : BusKind) (event : Event) (answer : ℕ) (old_bus bus new_bus : BusState) (run next : RunView) (hurt : Hurt) (status : ℕ) (body bytes : List ℕ) → kind_of bus ≡ kind → asked_of bus ≡ Some bytes →
@@ -189,8 +168,8 @@ served-up {F} kind event answer old_bus bus new_bus run next hurt status body by
     (step-up {F = F} kind event hurt answer old_bus bus (replied (response_packet status body) bus) (Some ServeTask) run (Up next) taken
     (event-told hurt event old_bus bus answer (answer_by hurt answer (lost_answer event)) run (Serve bytes) (up_table (replied (response_packet status body) bus) next) taken.state taken.answer_is work_is
     (replied-told hurt run next bus answer (lost_answer event) bytes status body stays_on.alive leaves))
-    (on-alive hurt stays_on.alive) stays_on.pin (replied-none (response_packet status body) bus) (spent-more hurt (packet_limit kind) run.device next.device (limits kind) stays_on.spent)
-    (served-wear event old_bus run bytes next.device.wear work_is stays_on.wear))
+    (on-alive hurt stays_on.alive) stays_on.pin (replied-none (response_packet status body) bus) (spent-in hurt (packet_limit kind - 8) run.device next.device (short-of kind) stays_on.spent)
+    (work-wears event old_bus run (Serve bytes) next.device.wear work_is stays_on.wear))
 
 -- a request in which power was lost
 pub served-down : {F : Type 0} (kind : BusKind) (event : Event) (answer : ℕ) (old_bus bus : BusState) (run : RunView) (off : OffView) (pin : Bool) (hurt : Hurt) (bytes : List ℕ) → kind_of bus ≡ kind → asked_of bus ≡ Some bytes → pin ≡ run.pin →
@@ -202,5 +181,5 @@ served-down {F} kind event answer old_bus bus run off pin hurt bytes kind_is ask
     (step-up {F = F} kind event Cut answer old_bus bus bus (Some ServeTask) run (Down off run.pin) taken
     (event-told Cut event old_bus bus answer (lost_answer event) run (Serve bytes) (down_table kind run.pin off) taken.state taken.answer_is work_is
     (lost-told run off bus kind answer (lost_answer event) bytes kind_is goes_off.leaves))
-    refl refl tt (spent-more Cut (packet_limit kind) run.device off.device (limits kind) goes_off.spent)
-    (served-wear event old_bus run bytes off.device.wear work_is goes_off.wear))
+    refl refl tt (spent-in Cut (packet_limit kind - 8) run.device off.device (short-of kind) goes_off.spent)
+    (work-wears event old_bus run (Serve bytes) off.device.wear work_is goes_off.wear))

@@ -1,5 +1,5 @@
 -- What an event leaves, by what its task leaves.
-use Rattle.std.proofs.Common.{◌≡◌, refl, sym, ap, ◌∙◌, subst, ℕ, Bool, true, false, List, length, Option, Some, None, arith}
+use Rattle.std.proofs.Common.{◌≡◌, refl, sym, ap, ◌∙◌, subst, ℕ, ◌≤◌, Bool, true, false, List, length, Option, Some, None, arith}
 use Rattle.std.specs.Prelude.{option_map, is_some}
 use Rattle.flash_dev.specs.Device.{DeviceView}
 use Rattle.ec_types.specs.declared.bus.BusKind.{BusKind}
@@ -9,8 +9,8 @@ use Rattle.ec_model.specs.declared.event.Event.{Event}
 use Rattle.ec_model.specs.declared.event.Event.TheVariants.{Access, Tick, Reset, Power as PowerEvent, Pin}
 use Rattle.ec_model.specs.HostCalls.{on_after_event}
 use Rattle.ec_model.specs.Bus.{BusState, BusAnswer, kind_of}
-use Rattle.ec_model.specs.Table.{Table, table_of, off_table}
-use Rattle.ec_model.specs.Work.{Work, Rest, Serve, Stop, SetPin, work_on, work_off, bus_after, lost_answer, operations_of, After}
+use Rattle.ec_model.specs.Table.{Core, Table, table_of, off_table}
+use Rattle.ec_model.specs.Work.{Work, Rest, Serve, Stop, SetPin, work_on, work_off, bus_after, lost_answer, operations_of, work_operations, After}
 use Rattle.ec_model.specs.WholeStep.{worked_off}
 use Rattle.ec_model.specs.Step.{WorkLeaves}
 use Rattle.ec_wire.specs.Dues.{asked_of}
@@ -22,7 +22,7 @@ use Rattle.ec_core.specs.Task.{IsTakenUp, IsTakenDown, IsTaken, IsStepped, CanCa
 use Rattle.ec_core.specs.declared.held.Held.{Held}
 use Rattle.ec_core.specs.declared.held.Held.TheVariants.{Down, Up}
 use Rattle.ec_core.specs.declared.task.Task.{Task}
-use Rattle.ec_core.specs.declared.task.Task.TheVariants.{Serve as ServeTask, Boot as BootTask, Stop as StopTask, SetPin as SetPinTask}
+use Rattle.ec_core.specs.declared.task.Task.TheVariants.{Serve as ServeTask, Tick as TickTask, Boot as BootTask, Stop as StopTask, SetPin as SetPinTask}
 
 -- a bus and an answer, by their parts
 bus-answer : (both : BusAnswer) (state : BusState) (answer : ℕ) → state ≡ both.state → answer ≡ both.answer → ◌≡◌ {A = BusAnswer} (record { state = state; answer = answer }) both
@@ -132,6 +132,29 @@ pub unspent : (asked : ℕ) (device : DeviceView) → Costs Whole asked device d
 unspent asked device =
     record { extent = refl; faults = omega arith; cuts = omega arith; rose = tt; fetched = stays asked device.fetched device.fetched refl }
 
+-- an event may cost more than its task did
+pub spent-in : (hurt : Hurt) (asked : ℕ) (old new : DeviceView) → asked ≤ 1024 → Costs hurt asked old new → IsSpent hurt old new
+spent-in hurt asked old new short spent =
+    record { extent = spent.extent; faults = spent.faults; cuts = spent.cuts; rose = spent.rose; fetched = record { least = spent.fetched.least; most = omega (arith, spent.fetched.most) } }
+
+-- the operations of an event are those of its work
+pub work-wears : (event : Event) (old_bus : BusState) (run : RunView) (work : Work) (worn : ℕ) → work_on (awake_of run old_bus) event ≡ work →
+    ((core : Core) → told_core run ≡ Some core → RisesAtMost (length (work_operations core work)) run.device.wear worn) → WearsBy event (up_table old_bus run) run.device.wear worn
+work-wears event old_bus run work worn work_is wear table told = by run.device.held told (λ core is. wear core is) where
+  by : (o : Option (List ℕ)) → option_map (λ flash. table_of (core_at run flash) old_bus) o ≡ Some table →
+      ((core : Core) → option_map (core_at run) o ≡ Some core → RisesAtMost (length (work_operations core work)) run.device.wear worn) → RisesAtMost (length (operations_of table event)) run.device.wear worn
+  by None same here = cc
+  by (Some f) same here =
+      let table_is : table_of (core_at run f) old_bus ≡ table = cc in
+      subst (λ (t : Table). RisesAtMost (length (operations_of t event)) run.device.wear worn) table_is
+      (subst (λ (w : Work). RisesAtMost (length (work_operations (core_at run f) w)) run.device.wear worn) (sym work_is) (here (core_at run f) refl))
+
+-- a controller stays on where power was not lost
+pub on-alive : (hurt : Hurt) → (hurt ≡ Cut → ⊥) → true ≡ on_by hurt true
+on-alive Whole alive = refl
+on-alive Failed alive = refl
+on-alive Cut alive = absurd (alive refl)
+
 -- work that leaves all as it is
 pub rest-told : (bus : BusState) (answer lost : ℕ) (run : RunView) → WorkTold Whole (record { state = bus; answer = answer }) lost Rest answer run (up_table bus run)
 rest-told bus answer lost run = by run.device.held where
@@ -219,7 +242,7 @@ pinned-down {F} kind event on answer old_bus bus off pin taken =
     (subst (λ (n : ℕ). EventTold Whole (Pin on) n (down_table kind pin off) (down_table kind on off)) (sym nothing) (pin-off-told kind pin on off)) in
     step-down {F = F} kind event Whole answer old_bus bus (Some (SetPinTask on)) off pin (Down off on) (λ cut. cc) taken here refl refl tt (unspent 1024 off.device) refl
 
--- a request is there where one is to be served, and only a controller that is on serves or stops
+-- a request is there where one is to be served, and only a controller that is on serves, ticks or stops
 serves-not : (event : Event) (request : List ℕ) → work_off event ≡ Serve request → ⊥
 serves-not (Access access) request same = cc
 serves-not Tick request same = cc
@@ -227,6 +250,9 @@ serves-not (Reset other) request same = cc
 serves-not (PowerEvent true) request same = cc
 serves-not (PowerEvent false) request same = cc
 serves-not (Pin other) request same = cc
+
+ticks-not : (work : Work) → None ≡ Some work → ⊥
+ticks-not work same = cc
 
 stops-not : (event : Event) → work_off event ≡ Stop → ⊥
 stops-not (Access access) same = cc
@@ -242,10 +268,12 @@ is-some o request same = ap (λ (p : Option (List ℕ)). is_some p) same
 pub can-carry : {F : Type 0} (event : Event) (old_bus bus : BusState) (task : Task) (answer : ℕ) (held : Option (Held F)) → IsTaken event old_bus (Some task) bus answer held → CanCarry task bus (is_kept_up held)
 can-carry event old_bus bus task answer None taken = absurd taken
 can-carry event old_bus bus ServeTask answer (Some (Up run)) taken = is-some (asked_of bus) taken.task_is.request taken.task_is.asked
+can-carry event old_bus bus TickTask answer (Some (Up run)) taken = tt
 can-carry event old_bus bus (BootTask cause) answer (Some (Up run)) taken = tt
 can-carry event old_bus bus StopTask answer (Some (Up run)) taken = tt
 can-carry event old_bus bus (SetPinTask on) answer (Some (Up run)) taken = tt
 can-carry event old_bus bus ServeTask answer (Some (Down off pin)) taken = serves-not event (taken.task_is bus).request (taken.task_is bus).serves
+can-carry event old_bus bus TickTask answer (Some (Down off pin)) taken = ticks-not (work_off event) (taken.task_is bus)
 can-carry event old_bus bus (BootTask cause) answer (Some (Down off pin)) taken = tt
 can-carry event old_bus bus StopTask answer (Some (Down off pin)) taken = stops-not event (taken.task_is bus)
 can-carry event old_bus bus (SetPinTask on) answer (Some (Down off pin)) taken = tt

@@ -7,7 +7,7 @@ use Rattle.ec_model.specs.declared.event.Hurt.TheVariants.{Cut}
 use Rattle.ec_model.specs.Bus.{BusState, due_now}
 use Rattle.ec_model.specs.HostCalls.{on_after_event}
 use Rattle.ec_model.specs.Guarded.{pin_after}
-use Rattle.ec_model.specs.Work.{Work, Rest, Serve, Boot, Stop, SetPin, work_on, work_off, bus_after, lost_answer}
+use Rattle.ec_model.specs.Work.{Work, Rest, Serve, Boot, Stop, SetPin, idle_work, work_on, work_off, bus_after, lost_answer}
 use Rattle.ec_wire.specs.Dues.{asked_of}
 use Rattle.ec_boot.specs.States.{RunView}
 use Rattle.ec_core.specs.Held.{awake_of, kept_table, kept_device, kept_pin, is_kept_up, IsKept, IsSpent, IsSilent, EventTold, answer_by, on_behind}
@@ -15,7 +15,7 @@ use Rattle.ec_core.specs.View.{WearsBy}
 use Rattle.ec_core.specs.declared.held.Held.{Held}
 use Rattle.ec_core.specs.declared.held.Held.TheVariants.{Down, Up}
 use Rattle.ec_core.specs.declared.task.Task.{Task}
-use Rattle.ec_core.specs.declared.task.Task.TheVariants.{Serve as ServeTask, Boot as BootTask, Stop as StopTask, SetPin as SetPinTask}
+use Rattle.ec_core.specs.declared.task.Task.TheVariants.{Serve as ServeTask, Tick as TickTask, Boot as BootTask, Stop as StopTask, SetPin as SetPinTask}
 
 -- the work is to serve the request that the bus has
 pub record IsServing (bus : BusState) (work : Work) : Type 0 where
@@ -23,23 +23,26 @@ pub record IsServing (bus : BusState) (work : Work) : Type 0 where
   pub serves : work ≡ Serve request
   pub asked : asked_of bus ≡ Some request
 
--- a task, if there is one, is this work; the request of one that serves is on the bus
-abbrev pub IsTask : Option Task → BusState → Work → Type 0
-IsTask None bus work = work ≡ Rest
-IsTask (Some ServeTask) bus work = IsServing bus work
-IsTask (Some (BootTask cause)) bus work = work ≡ Boot cause
-IsTask (Some StopTask) bus work = work ≡ Stop
-IsTask (Some (SetPinTask on)) bus work = work ≡ SetPin on
+-- A task, if there is one, is this work; the request of one that serves is on the bus. `idle` is the work of a tick that
+-- serves none, where the controller is on.
+abbrev pub IsTask : Option Work → Option Task → BusState → Work → Type 0
+IsTask idle None bus work = work ≡ Rest
+IsTask idle (Some ServeTask) bus work = IsServing bus work
+IsTask idle (Some TickTask) bus work = idle ≡ Some work
+IsTask idle (Some (BootTask cause)) bus work = work ≡ Boot cause
+IsTask idle (Some StopTask) bus work = work ≡ Stop
+IsTask idle (Some (SetPinTask on)) bus work = work ≡ SetPin on
 
 -- no request is due now but one to serve
 abbrev pub IsCalmBut : Option Task → BusState → Type 0
 IsCalmBut (Some ServeTask) bus = ⊤
 IsCalmBut other bus = IsNone (due_now bus)
 
--- a request to serve is there, and only a controller that is on serves or stops
+-- a request to serve is there, and only a controller that is on serves, ticks or stops
 abbrev pub CanCarry : Task → BusState → Bool → Type 0
 CanCarry ServeTask bus true = IsSome (asked_of bus)
 CanCarry ServeTask bus false = ⊥
+CanCarry TickTask bus false = ⊥
 CanCarry StopTask bus false = ⊥
 CanCarry other bus on = ⊤
 
@@ -64,14 +67,14 @@ pub record IsLike (event : Event) (task : Option Task) (answer : ℕ) (on : Bool
 pub record IsTakenUp (event : Event) (old_bus : BusState) (task : Option Task) (bus : BusState) (answer : ℕ) (run : RunView) : Type 0 where
   pub state : bus ≡ (bus_after old_bus event).state
   pub answer_is : answer ≡ (bus_after old_bus event).answer
-  pub task_is : IsTask task bus (work_on (awake_of run old_bus) event)
+  pub task_is : IsTask (Some (idle_work run.live.erase run.live.hash)) task bus (work_on (awake_of run old_bus) event)
   pub calm : IsCalmBut task bus
   pub like : IsLike event task answer true
 
 -- a controller that is off took an event
 pub record IsTakenDown (event : Event) (task : Option Task) (answer : ℕ) : Type 0 where
   pub answer_is : answer ≡ lost_answer event
-  pub task_is : (bus : BusState) → IsTask task bus (work_off event)
+  pub task_is : (bus : BusState) → IsTask None task bus (work_off event)
   pub like : IsLike event task answer false
 
 -- a controller took an event

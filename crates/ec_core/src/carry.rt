@@ -8,6 +8,7 @@ ghost use Rattle.ec_core.specs.Task.{IsCarried, CanCarry};
 use crate::held::Held;
 use crate::serve::serve;
 use crate::task::Task;
+use crate::tick::tick;
 use ec_boot::{InRo, Off, Running};
 use ec_model::Hurt;
 use ec_wire::Bus;
@@ -44,6 +45,7 @@ fn carry_up<B: Bus + Drop, F: FlashDev>(mut on: InRo<F>, bus: &mut B, task: Task
 {
     match task {
         Task::Serve => serve(on, bus),
+        Task::Tick => tick(on, bus),
         Task::Boot { cause } => booted(on.reset(cause), bus),
         Task::Stop => {
             let pin = on.pin();
@@ -78,7 +80,7 @@ fn carry_down<B: Bus + Drop, F: FlashDev>(
             held: Held::Down { off, pin: on },
             hurt: Hurt::Whole,
         },
-        Task::Serve | Task::Stop => unreachable!(),
+        Task::Serve | Task::Tick | Task::Stop => unreachable!(),
     }
 }
 

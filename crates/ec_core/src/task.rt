@@ -1,13 +1,13 @@
 // What an event has the controller do.
 ghost use Rattle.std.specs.Prelude.{◌≡◌, IsNone};
 ghost use Rattle.ec_model.specs.Bus.{due_now};
-ghost use Rattle.ec_model.specs.Work.{cause_of, lost_answer, idle_work, Rest};
+ghost use Rattle.ec_model.specs.Work.{cause_of, lost_answer};
+ghost use Rattle.ec_boot.specs.States.{RunView};
 ghost use Rattle.ec_core.specs.Held.{IsKept};
 ghost use Rattle.ec_core.specs.Task.{IsTaken, IsTakenUp, IsTakenDown};
 
 use crate::held::Held;
-use ec_boot::{InRo, Running};
-use ec_model::{Event, HashView, WorldReset};
+use ec_model::{Event, WorldReset};
 use ec_types::ResetCause;
 use ec_wire::{Bus, Due};
 use flash_dev::FlashDev;
@@ -16,6 +16,8 @@ use flash_dev::FlashDev;
 #[derive(Clone, Copy)]
 pub enum Task {
     Serve,
+    /// A tick that serves no request.
+    Tick,
     Boot { cause: ResetCause },
     Stop,
     SetPin { on: bool },
@@ -48,19 +50,10 @@ pub fn answer_without_power(event: Event) -> u8
     }
 }
 
-// A tick that serves no request leaves the controller at rest: no command starts an erase or a hash.
-fn rest<F: FlashDev>(on: &InRo<F>)
-    ensures { idle_work on.now.live.erase on.now.live.hash ≡ Rest }
-{
-    let live = on.live();
-    let still = live.erase.is_none() && matches!(live.hash, HashView::Idle);
-    prove!(still);
-}
-
 // What an event has a controller do that is on.
-fn take_up<B: Bus, F: FlashDev>(on: &InRo<F>, bus: &mut B, event: Event) -> Taken
+fn take_up<B: Bus>(bus: &mut B, event: Event) -> Taken
     requires { IsNone (due_now (B.state bus.old)) }
-    ensures { IsTakenUp event (B.state bus.old) result.task (B.state bus.new) result.answer on.now }
+    ensures { (run : RunView) → IsTakenUp event (B.state bus.old) result.task (B.state bus.new) result.answer run }
 {
     match event {
         Event::Access { a } => {
@@ -73,19 +66,16 @@ fn take_up<B: Bus, F: FlashDev>(on: &InRo<F>, bus: &mut B, event: Event) -> Take
                 _ => Taken { task: None, answer },
             }
         }
-        Event::Tick => {
-            rest(on);
-            match bus.due() {
-                Due::AtTick => Taken {
-                    task: Some(Task::Serve),
-                    answer: 0,
-                },
-                _ => Taken {
-                    task: None,
-                    answer: 0,
-                },
-            }
-        }
+        Event::Tick => match bus.due() {
+            Due::AtTick => Taken {
+                task: Some(Task::Serve),
+                answer: 0,
+            },
+            _ => Taken {
+                task: Some(Task::Tick),
+                answer: 0,
+            },
+        },
         Event::Reset { cause } => Taken {
             task: Some(Task::Boot {
                 cause: reset_cause(cause),
@@ -133,7 +123,7 @@ pub fn take<B: Bus, F: FlashDev>(held: &Option<Held<F>>, bus: &mut B, event: Eve
     ensures { IsTaken event (B.state bus.old) result.task (B.state bus.new) result.answer held.now }
 {
     match held {
-        Some(Held::Up(on)) => take_up(on, bus, event),
+        Some(Held::Up(_)) => take_up(bus, event),
         Some(Held::Down { off: _, pin: _ }) => take_down(event),
         None => unreachable!(),
     }

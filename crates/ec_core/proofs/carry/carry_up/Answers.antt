@@ -4,6 +4,9 @@ use Rattle.ec_core.proofs.carry.carry_up.Goals as goal
 pub returns-in-Serve : goal.returns-in-Serve
 returns-in-Serve g c = λ event old_bus answer taken. c.serve.ensures event old_bus answer (rw c.in-Serve.is at taken)
 
+pub returns-in-Tick : goal.returns-in-Tick
+returns-in-Tick g c = λ event old_bus answer taken. c.tick.ensures event old_bus answer (rw c.in-Tick.is at taken)
+
 pub returns-in-Boot : goal.returns-in-Boot
 returns-in-Boot g c = λ event old_bus answer taken.
     booted-up {F = g.row.F.Denot} g.B.Bus.bus event c.in-Boot.cause c.booted.result.hurt answer old_bus (g.B.Bus.state c.args.bus.now) (g.B.Bus.state c.booted.new.bus) c.args.on c.reset.result c.booted.result.held (g.met.B.Bus.own c.args.bus.now) c.booted.ensures.bus

@@ -1,0 +1,36 @@
+// A tick that serves no request.
+ghost use Rattle.std.specs.Prelude.{Some};
+ghost use Rattle.ec_core.specs.declared.held.Held.TheVariants.{Up};
+ghost use Rattle.ec_core.specs.declared.task.Task.TheVariants.{Tick};
+ghost use Rattle.ec_core.specs.Task.{IsCarried};
+
+use crate::carry::Carried;
+use crate::held::Held;
+use ec_boot::{InRo, Running};
+use ec_model::Hurt;
+use ec_wire::Bus;
+use flash_dev::{DevErr, FlashDev};
+
+/// Does a tick that serves no request: the next block of a pending erase, which may fail, or lose the power. The bus stays
+/// as it is.
+pub fn tick<B: Bus, F: FlashDev>(mut on: InRo<F>, bus: &B) -> Carried<F>
+    ensures { IsCarried B.bus Tick result.hurt (B.state bus.now) (B.state bus.now) (Some (Up on)) (Some result.held) }
+{
+    // No command starts a hash.
+    let _live = on.live();
+    let pin = on.pin();
+    match on.tick() {
+        Ok(()) => Carried {
+            held: Held::Up(on),
+            hurt: Hurt::Whole,
+        },
+        Err(DevErr::Failed) => Carried {
+            held: Held::Up(on),
+            hurt: Hurt::Failed,
+        },
+        Err(DevErr::PowerLost) => Carried {
+            held: Held::Down { off: on.cut(), pin },
+            hurt: Hurt::Cut,
+        },
+    }
+}
