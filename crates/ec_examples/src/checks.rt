@@ -12,22 +12,20 @@ ghost use Rattle.ec_examples.specs.Cores.{on};
 pub fn checks_in_their_order()
     ensures framing { asked (on e64) (0x03 ∷ 0x00 ∷ 0xFF ∷ 0xFF ∷ 0x07 ∷ 0x00 ∷ 0x00 ∷ 0x00 ∷ []) ≡ Err 7 }
     ensures command { asked (on e64) (request_packet 0xFFFF 7 []) ≡ Err 1 }
-    ensures version { admitted_by (with_job (Some (record { next = 8; left = 8 })) 9 (on e64))
-        (record { command = 0x13; version = 1; body = [] }) (Some (line 0x13 FlashErase 1)) ≡ Err 6 }
-    ensures erase { admitted_by (with_job (Some (record { next = 8; left = 8 })) 9 (on e64))
-        (record { command = 0x13; version = 0; body = [] }) (Some (line 0x13 FlashErase 1)) ≡ Err 16 }
-    ensures body { admitted_by (on e64) (record { command = 0x13; version = 0; body = [] }) (Some (line 0x13 FlashErase 1)) ≡ Err 3 }
-    ensures passed { admitted_by (on e64) (record { command = 0x13; version = 0; body = replicate 8 0 }) (Some (line 0x13 FlashErase 1)) ≡
+    ensures version { asked (with_job (Some (record { next = 8; left = 8 })) 9 (on e64)) (request_packet 0x13 1 []) ≡ Err 6 }
+    ensures erase { asked (with_job (Some (record { next = 8; left = 8 })) 9 (on e64)) (request_packet 0x13 0 []) ≡ Err 16 }
+    ensures body { asked (on e64) (request_packet 0x13 0 []) ≡ Err 3 }
+    ensures passed { asked (on e64) (request_packet 0x13 0 (replicate 8 0)) ≡
         Ok (record { command = FlashErase; version = 0; body = replicate 8 0 }) }
 {}
 
 /// While an erase is pending a HELLO is told so, and two commands are answered all the same.
 pub fn commands_while_an_erase_is_pending()
     ensures hello { asked (with_job (Some (record { next = 8; left = 8 })) 9 (on e64)) (request_packet 1 0 (hello_ask 5)) ≡ Err 16 }
-    ensures comms { admitted_by (with_job (Some (record { next = 8; left = 8 })) 9 (on e64))
-        (record { command = 0x09; version = 0; body = [] }) (Some (line 0x09 Comms 1)) ≡ Ok (record { command = Comms; version = 0; body = [] }) }
-    ensures resend { admitted_by (with_job (Some (record { next = 8; left = 8 })) 9 (on e64))
-        (record { command = 0xDB; version = 0; body = [] }) (Some (line 0xDB Resend 1)) ≡ Ok (record { command = Resend; version = 0; body = [] }) }
+    ensures comms { asked (with_job (Some (record { next = 8; left = 8 })) 9 (on e64)) (request_packet 0x09 0 []) ≡
+        Ok (record { command = Comms; version = 0; body = [] }) }
+    ensures resend { asked (with_job (Some (record { next = 8; left = 8 })) 9 (on e64)) (request_packet 0xDB 0 []) ≡
+        Ok (record { command = Resend; version = 0; body = [] }) }
 {}
 
 /// A body's length is just its row's: HELLO takes 4 bytes.

@@ -20,6 +20,7 @@ ghost use Rattle.ec_model.specs.WholeStep.{with_job};
 ghost use Rattle.ec_model.specs.Step.{IsStep};
 ghost use Rattle.ec_examples.specs.Flashes.{e64};
 ghost use Rattle.ec_examples.specs.Cores.{on};
+ghost use Rattle.ec_examples.specs.Events.{table_after};
 ghost use Rattle.ec_examples.specs.Waiting.{write_waits, read_waits, write_on_i2c, torn_in_the_second, lpc_said};
 
 /// Bytes that changed in 0x8040 to 0x8080 alone are torn there, and not beside it.
@@ -61,6 +62,15 @@ pub fn reads_that_fail()
 pub fn erase_that_fails()
     ensures { IsStep (table_of (with_job (Some (record { next = 8; left = 8 })) 9 (on e64)) (fresh_bus Lpc)) (Step Tick 0 0 0 Failed)
         (table_of (with_job None 2 (record (without_hash (on e64)) { flash = overwritten 0x8FFF (0x00 ∷ []) e64 })) (fresh_bus Lpc)) }
+{}
+
+/// Power that is lost inside a block of an erase leaves the blocks behind it as they were, and the power-on does not go on with
+/// them: the ticks that follow erase nothing.
+pub fn erase_that_is_cut()
+    ensures cut { IsStep (table_of (with_job (Some (record { next = 8; left = 8 })) 9 (on (overwritten 0x9000 (replicate 16 0) e64))) (fresh_bus Lpc)) (Step Tick 0 0 0 Cut)
+        (off_table (overwritten 0x8FFF (0x00 ∷ []) (overwritten 0x9000 (replicate 16 0) e64)) true Lpc) }
+    ensures behind { table_after (off_table (overwritten 0x8FFF (replicate 17 0) e64) true Lpc) (Power true ∷ replicate 9 Tick) ≡
+        booted_table (overwritten 0x8FFF (replicate 17 0) e64) true Lpc PowerOn false }
 {}
 
 /// Power that is lost inside the program of the stored bits may leave both of them stored, or none.
