@@ -1,96 +1,86 @@
--- Events of the world on a controller that is ready for commands.
-use Rattle.std.proofs.Common.{◌≡◌, refl, sym, ap, ◌∙◌, subst, ℕ, Bool, true, false, List, [], ◌∷◌, Result, Ok, Err}
-use Rattle.ec_types.specs.declared.bus.BusKind.{BusKind}
-use Rattle.ec_types.specs.declared.bus.BusKind.TheVariants.{Lpc}
+-- Events on a controller that is ready for commands.
+use Rattle.std.proofs.Common.{◌≡◌, refl, ap, ◌∙◌, ℕ, Bool, true, false, List, [], ◌∷◌, Option, Some, None, Result, Ok}
+use Rattle.ec_types.specs.Tables.{packet_limit}
 use Rattle.ec_types.specs.declared.why.Why.{Why}
 use Rattle.ec_model.specs.declared.event.Entry.TheVariants.{Step}
 use Rattle.ec_model.specs.declared.event.Event.{Event}
 use Rattle.ec_model.specs.declared.event.Event.TheVariants.{Access, Tick, Reset, Power as PowerEvent, Pin}
 use Rattle.ec_model.specs.declared.event.Hurt.TheVariants.{Whole}
-use Rattle.ec_model.specs.declared.live.Live.{Live}
-use Rattle.ec_model.specs.Bus.{BusState, fresh_bus, kind_of}
+use Rattle.ec_model.specs.declared.live.EraseJob.{EraseJob}
+use Rattle.ec_model.specs.declared.live.HashView.{HashView}
+use Rattle.ec_model.specs.declared.live.HashView.TheVariants.{Idle, Busy, Done}
+use Rattle.ec_model.specs.Answer.{Outcome, Answered, Restarts}
+use Rattle.ec_model.specs.Bus.{BusAnswer, bus_step, due_now, due_at_tick, kind_of}
+use Rattle.ec_model.specs.Handle.{handled}
 use Rattle.ec_model.specs.HostCalls.{on_after_event}
-use Rattle.ec_model.specs.Table.{Table, Awake, Power, Off, On, is_on}
-use Rattle.ec_model.specs.Upset.{is_world_event}
 use Rattle.ec_model.specs.Run.{IsRun}
-use Rattle.ec_model.specs.WholeStep.{stepped, stepped_by}
+use Rattle.ec_model.specs.Table.{Table, Core, Power, Off, On, core_of, is_on}
+use Rattle.ec_model.specs.WholeStep.{after_outcome, worked, stepped, stepped_by}
+use Rattle.ec_model.specs.Work.{Work, Rest, Serve, EraseNext, HashNext, Boot, Stop, SetPin, bus_after, hash_work, idle_work, lost_answer, serve_or, work_on}
 use Rattle.ec_model.proofs.RunLaws.{run-valid, run-kind}
-use Rattle.host_runs.specs.Exchange.{ShowsIdle}
-use Rattle.host_runs.proofs.LpcSend.{bus-facts}
 use Rattle.script_words.specs.Forms.{◌>>=◌}
 use Rattle.script_lines.specs.declared.line.Line.{Line}
-use Rattle.script_lines.specs.declared.line.Line.TheVariants as line
 use Rattle.script_lines.specs.Lines.{line_of}
-use Rattle.ectool_lines.specs.declared.tool.Tool.{Tool}
-use Rattle.ectool_lines.specs.Tools.{tool_of}
 use Rattle.ectool_lines.proofs.AnswerLemmas.{Ready}
-use Rattle.ecbench.specs.Lines.{Deed, Asks, Happens, deed_by, deed_of}
+use Rattle.ecbench.specs.Lines.{deed_by, deed_of}
 
--- the bus of a controller that is on, and another one where it is off
-abbrev bus-in : BusState → Power → BusState
-bus-in other Off = other
-bus-in other (On awake) = awake.bus
+-- whether some work takes the power from a controller
+abbrev is_stop : Work → Bool
+is_stop Stop = true
+is_stop other = false
 
--- a bus that shows that nothing is there, in a controller that is on
-idle-in : (live : Live) (nonce : List ℕ) (bus : BusState) (awake : Awake) → ShowsIdle 0 bus → On (record { live = live; nonce = nonce; bus = bus }) ≡ On awake → ShowsIdle 0 awake.bus
-idle-in live nonce bus awake idle same = subst (λ (b : BusState). ShowsIdle 0 b) (ap (bus-in bus) same) idle
+-- a controller that is on stays on in any other work
+worked-on : (core : Core) (bus : BusAnswer) (lost : ℕ) (work : Work) → is_stop work ≡ false → is_on (worked core bus lost work).table.power ≡ true
+worked-on core bus lost Rest going = refl
+worked-on core bus lost (Serve request) going = served (handled core (packet_limit (kind_of bus.state)) request) where
+  served : (outcome : Outcome) → is_on (after_outcome core bus lost outcome).table.power ≡ true
+  served (Answered after status body) = refl
+  served Restarts = refl
+worked-on core bus lost (EraseNext job) going = refl
+worked-on core bus lost HashNext going = refl
+worked-on core bus lost (Boot cause) going = refl
+worked-on core bus lost Stop going = cc
+worked-on core bus lost (SetPin on) going = refl
 
--- a fresh bus of a kind
-idle-fresh : (kind : BusKind) → kind ≡ Lpc → ShowsIdle 0 (fresh_bus kind)
-idle-fresh kind lpc = subst (λ (k : BusKind). ShowsIdle 0 (fresh_bus k)) (sym lpc) (refl, refl)
+-- the work of an access or of a tick
+serve-going : (due : Option (List ℕ)) (other : Work) → is_stop other ≡ false → is_stop (serve_or due other) ≡ false
+serve-going (Some request) other going = refl
+serve-going None other going = going
 
--- what an event leaves of readiness
-record StaysReady (event : Event) (on : Bool) (after : Table) : Type 0 where
-  pub on_is : is_on after.power ≡ on_after_event event on
-  pub idle : (awake : Awake) → after.power ≡ On awake → ShowsIdle 0 awake.bus
+hash-going : (hash : HashView) → is_stop (hash_work hash) ≡ false
+hash-going Idle = refl
+hash-going (Busy at size left) = refl
+hash-going (Done at size digest) = refl
 
--- an event of the world, by the state of the controller
-ready-by : (event : Event) (power : Power) (on : Bool) (table : Table) → is_world_event event ≡ true → table.power ≡ power → is_on power ≡ on → Ready on table → StaysReady event on (stepped_by table event power).table
-ready-by (Access access) power on table world same on_is ready = cc
-ready-by Tick power on table world same on_is ready = cc
-ready-by (Reset cause) Off on table world same on_is ready = record { on_is = ready.on_is; idle = ready.idle }
-ready-by (PowerEvent true) Off on table world same on_is ready = record { on_is = refl; idle = λ awake there. idle-in _ _ (fresh_bus table.kind) awake (idle-fresh table.kind ready.kind) there }
-ready-by (PowerEvent false) Off on table world same on_is ready = record { on_is = ap is_on same; idle = ready.idle }
-ready-by (Pin pin) Off on table world same on_is ready = record { on_is = on_is; idle = λ awake there. cc }
-ready-by (Reset cause) (On old) on table world same on_is ready =
-    let facts = bus-facts table old ready.valid same in
-    record { on_is = on_is; idle = λ awake there. idle-in _ _ (fresh_bus (kind_of old.bus)) awake (idle-fresh (kind_of old.bus) (facts.kind ∙ ready.kind)) there }
-ready-by (PowerEvent true) (On old) on table world same on_is ready = record { on_is = refl; idle = λ awake there. idle-in old.live old.nonce old.bus awake (ready.idle old same) there }
-ready-by (PowerEvent false) (On old) on table world same on_is ready = record { on_is = refl; idle = λ awake there. cc }
-ready-by (Pin pin) (On old) on table world same on_is ready = record { on_is = on_is; idle = λ awake there. idle-in old.live old.nonce old.bus awake (ready.idle old same) there }
+idle-going : (job : Option EraseJob) (hash : HashView) → is_stop (idle_work job hash) ≡ false
+idle-going (Some job) hash = refl
+idle-going None hash = hash-going hash
+
+-- whether the controller is on behind an event in which nothing fails
+pub on-by : (event : Event) (power : Power) (on : Bool) (table : Table) → table.power ≡ power → is_on power ≡ on → is_on (stepped_by table event power).table.power ≡ on_after_event event on
+on-by (Access access) Off on table same on_is = ap is_on same ∙ on_is
+on-by Tick Off on table same on_is = ap is_on same ∙ on_is
+on-by (Reset cause) Off on table same on_is = ap is_on same ∙ on_is
+on-by (PowerEvent true) Off on table same on_is = refl
+on-by (PowerEvent false) Off on table same on_is = ap is_on same
+on-by (Pin pin) Off on table same on_is = on_is
+on-by (Access access) (On awake) on table same on_is =
+    worked-on (core_of table awake) (bus_after awake.bus (Access access)) (lost_answer (Access access)) (work_on awake (Access access)) (serve-going (due_now (bus_step awake.bus access).state) Rest refl) ∙ on_is
+on-by Tick (On awake) on table same on_is =
+    worked-on (core_of table awake) (bus_after awake.bus Tick) (lost_answer Tick) (work_on awake Tick) (serve-going (due_at_tick awake.bus) (idle_work awake.live.erase awake.live.hash) (idle-going awake.live.erase awake.live.hash)) ∙ on_is
+on-by (Reset cause) (On awake) on table same on_is = on_is
+on-by (PowerEvent true) (On awake) on table same on_is = refl
+on-by (PowerEvent false) (On awake) on table same on_is = refl
+on-by (Pin pin) (On awake) on table same on_is = on_is
 
 -- an event of the world in which nothing fails
-pub event-ready : (event : Event) (on : Bool) (table last : Table) → is_world_event event ≡ true → Ready on table → IsRun table (Step event 0 0 0 Whole ∷ []) last → last ≡ (stepped table event).table → Ready (on_after_event event on) last
-event-ready event on table last world ready run same =
-    let stays = ready-by event table.power on table world refl ready.on_is ready in
+pub event-ready : (event : Event) (on : Bool) (table last : Table) → Ready on table → IsRun table (Step event 0 0 0 Whole ∷ []) last → last ≡ (stepped table event).table → Ready (on_after_event event on) last
+event-ready event on table last ready run same =
     record {
       valid = run-valid table (Step event 0 0 0 Whole ∷ []) last ready.valid run;
       kind = run-kind table (Step event 0 0 0 Whole ∷ []) last ready.valid run ∙ ready.kind;
-      on_is = ap (λ (t : Table). is_on t.power) same ∙ stays.on_is;
-      idle = λ awake there. stays.idle awake (sym (ap (λ (t : Table). t.power) same) ∙ there);
+      on_is = ap (λ (t : Table). is_on t.power) same ∙ on-by event table.power on table refl ready.on_is;
     }
-
--- the event of a deed
-abbrev is_world_deed : Result Deed Why → Bool
-is_world_deed (Ok (Happens event)) = is_world_event event
-is_world_deed other = true
-
--- a tool line has no event
-tool-deed : (tool : Result Tool Why) → is_world_deed (tool >>= λ found. Ok (Asks found)) ≡ true
-tool-deed (Ok tool) = refl
-tool-deed (Err why) = refl
-
--- each event of a line is the world's
-read-deed : (text : List ℕ) (read : Result Line Why) → is_world_deed (read >>= λ found. deed_by text found) ≡ true
-read-deed text (Err why) = refl
-read-deed text (Ok line.Nothing) = refl
-read-deed text (Ok line.Tool) = tool-deed (tool_of text)
-read-deed text (Ok (line.Pin on)) = refl
-read-deed text (Ok (line.Power on)) = refl
-read-deed text (Ok (line.Reset cause)) = refl
-
-pub deed-world : (text : List ℕ) (event : Event) → deed_of text ≡ Ok (Happens event) → is_world_event event ≡ true
-deed-world text event wants = sym (ap is_world_deed wants) ∙ read-deed text (line_of text)
 
 -- what a line wants, by what was read of it
 pub deed-read : (text : List ℕ) (read : Line) → line_of text ≡ Ok read → deed_of text ≡ deed_by text read

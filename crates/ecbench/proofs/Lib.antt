@@ -1,6 +1,7 @@
 pub mod Doing
 pub mod Adding
 pub mod EventLemmas
+pub mod RawLemmas
 pub mod Undisturbed
 pub mod ServedLemmas
 pub mod ServedLines

@@ -9,8 +9,7 @@ use Rattle.ec_model.specs.declared.event.Entry.{Entry}
 use Rattle.ec_model.specs.declared.event.Hurt.{Hurt}
 use Rattle.ec_model.specs.declared.event.Hurt.TheVariants.{Whole, Failed, Cut}
 use Rattle.ec_model.specs.Boot.{booted_table}
-use Rattle.ec_model.specs.Bus.{BusState, fresh_bus}
-use Rattle.ec_model.specs.Table.{Table, Power, Off, On, Valid, off_table}
+use Rattle.ec_model.specs.Table.{Table, Valid, off_table}
 use Rattle.ec_model.specs.Run.{IsRun}
 use Rattle.ec_model.specs.Work.{After}
 use Rattle.ec_model.specs.Step.{IsStep}
@@ -20,7 +19,6 @@ use Rattle.ec_model.proofs.ValidEvents.{step-valid}
 use Rattle.ec_wire.specs.Calls.{WireView, RunsAlong, RoseBy, is_failed_entry, with_spare}
 use Rattle.std.specs.List.{list_any}
 use Rattle.ec_wire.proofs.Calm.{none-rose, none-any, or-false}
-use Rattle.host_runs.specs.Exchange.{ShowsIdle}
 use Rattle.bench_wire.specs.Adding.{Extends}
 use Rattle.bench_wire.proofs.Extending.{extends-then, extends-nil}
 use Rattle.ecbench.specs.Lines.{Life}
@@ -129,11 +127,6 @@ passes old boot own (Some powered) None boots runs = absurd runs
 passes old boot own (Some powered) (Some last) boots runs =
     record { powered = boots.0; last = last; boots = boots.1; runs = subst (λ (table : Table). IsRun table own last) boots.2 runs }
 
--- the bus of a controller that is on, and another one where it is off
-abbrev bus-in : BusState → Power → BusState
-bus-in other Off = other
-bus-in other (On awake) = awake.bus
-
 -- an entry in which nothing failed and no power was lost
 hurt-none : (entry : Entry) → is_failed_entry entry ≡ false → is_cut_entry entry ≡ false → is_hurt entry ≡ false
 hurt-none (Step event answer meant seen_byte Whole) failed cut = refl
@@ -155,8 +148,7 @@ boot-table bytes powered boots = ap (λ (after : After). after.table) boots
 
 -- the controller behind a boot is ready
 booted-ready : (bytes : List ℕ) → Valid (booted_table bytes true Lpc PowerOn false) → Ready true (booted_table bytes true Lpc PowerOn false)
-booted-ready bytes valid =
-    record { valid = valid; kind = refl; on_is = refl; idle = λ awake same. subst (λ (bus : BusState). ShowsIdle 0 bus) (ap (bus-in (fresh_bus Lpc)) same) (refl, refl) }
+booted-ready bytes valid = record { valid = valid; kind = refl; on_is = refl }
 
 -- and valid
 booted-valid : (bytes : List ℕ) (powered : Table) → is_flash_size (length bytes) ≡ true → IsStep (off_table bytes true Lpc) (power_on Whole) powered → Valid (booted_table bytes true Lpc PowerOn false)

@@ -18,10 +18,11 @@ use Rattle.ectool_lines.specs.Requests.{commands_of}
 use Rattle.ectool_lines.proofs.AnswerLemmas.{Ready, EachAnswered, each-answered, tool-proper}
 use Rattle.ecbench.specs.declared.run.Exit.{Exit}
 use Rattle.ecbench.specs.declared.run.Exit.TheVariants.{Done, BadWords, BadFlash, BadLine, SourceFault, SinkFault, NoMemory, ScriptTooLong}
-use Rattle.ecbench.specs.Lines.{CarriesOut, HappensOnce, DoesDeed, WasCarried, HasHappened, IsDone, WasPassed, WasDone, AreDone}
+use Rattle.ecbench.specs.Lines.{CarriesOut, HappensOnce, MakesCalls, DoesDeed, WasCarried, HasHappened, HasMade, IsDone, WasPassed, WasDone, AreDone}
 use Rattle.ecbench.specs.Scripts.{Plays, PlaysUpTo}
 use Rattle.ecbench.specs.Endings.{seen, undisturbed}
-use Rattle.ecbench.proofs.EventLemmas.{event-ready, deed-world}
+use Rattle.ecbench.proofs.EventLemmas.{event-ready}
+use Rattle.ecbench.proofs.RawLemmas.{made-whole}
 
 -- nothing fails in either of two lists of entries
 whole-both : (first second : List Entry) → AreWhole (first ++ second) → AreWhole first × AreWhole second
@@ -106,12 +107,37 @@ happened-whole number on table last text entries said after ready happened run w
     let on_is = happened.goes.0 ∙ ap (λ (h : Hurt). on_after_entry (Step event 0 0 0 h) on) hurt in
     record {
       does = HasHappened (record { event = event; hurt = Whole; wants = happened.wants; entries_are = entries_are; goes = (refl, same); said_is = happened.said_is });
-      ready = subst (λ (o : Bool). Ready o last) (sym on_is) (event-ready event on table last (deed-world text event happened.wants) ready own_run same);
+      ready = subst (λ (o : Bool). Ready o last) (sym on_is) (event-ready event on table last ready own_run same);
+    }
+
+-- a line with calls of the host
+called-whole : (number : ℕ) (on : Bool) (table last : Table) (text : List ℕ) (entries : List Entry) (said : List ℕ) (after : Bool) → Ready on table → MakesCalls seen number on text entries said after → IsRun table entries last → AreWhole entries → DidWhole number table text entries said after last
+called-whole number on table last text entries said after ready makes run whole =
+    let marked : IsRun table (Mark number ∷ makes.own) last = subst (λ (e : List Entry). IsRun table e last) makes.entries_are run in
+    let own_run : IsRun table makes.own last = subst (λ (t : Table). IsRun t makes.own last) marked.1 marked.2 in
+    let own_whole : AreWhole makes.own = subst (λ (e : List Entry). AreWhole e) makes.entries_are whole in
+    let made = made-whole on table last makes.calls makes.own after ready makes.goes own_run (calm-of makes.own makes.alone own_whole makes.unchanged) in
+    record {
+      does = HasMade (record {
+        raw = makes.raw;
+        calls = makes.calls;
+        words = makes.words;
+        own = makes.own;
+        wants = makes.wants;
+        entries_are = makes.entries_are;
+        alone = makes.alone;
+        unchanged = makes.unchanged;
+        is_raw = makes.is_raw;
+        goes = made.makes;
+        said_is = makes.said_is;
+      });
+      ready = made.ready;
     }
 
 did-whole : (number : ℕ) (on : Bool) (table last : Table) (text : List ℕ) (entries : List Entry) (said : List ℕ) (after : Bool) → Ready on table → DoesDeed seen number on text entries said after → IsRun table entries last → AreWhole entries → DidWhole number table text entries said after last
 did-whole number on table last text entries said after ready (WasCarried carries) run whole = carried-whole number on table last text entries said after ready carries run whole
 did-whole number on table last text entries said after ready (HasHappened happened) run whole = happened-whole number on table last text entries said after ready happened run whole
+did-whole number on table last text entries said after ready (HasMade makes) run whole = called-whole number on table last text entries said after ready makes run whole
 
 -- a line that was done or passed over
 record DoneWhole (number : ℕ) (table : Table) (text : List ℕ) (entries : List Entry) (said : List ℕ) (after : Bool) (last : Table) : Type 0 where

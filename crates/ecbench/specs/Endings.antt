@@ -1,5 +1,6 @@
 -- What each exit of a run says of the words, the flash, the script, the printed bytes and the journal.
-use Rattle.std.specs.Prelude.{◌≡◌, ◌⊎◌, ℕ, Bool, true, false, List, [], ◌∷◌, Option, IsTrue, IsFalse}
+use Rattle.std.specs.Prelude.{◌≡◌, ◌⊎◌, ℕ, Bool, true, false, List, [], ◌∷◌, map, Option, IsTrue, IsFalse}
+use Rattle.std.specs.List.{list_all}
 use Rattle.ec_types.specs.declared.bus.BusKind.TheVariants.{Lpc}
 use Rattle.ec_types.specs.declared.reset.ResetCause.TheVariants.{PowerOn}
 use Rattle.flash_dev.specs.Told.{Changes}
@@ -7,7 +8,7 @@ use Rattle.flash_dev.specs.Counts.{Rose}
 use Rattle.flash_dev.specs.Device.{DeviceView}
 use Rattle.ec_model.specs.Ranges.{is_flash_size}
 use Rattle.ec_model.specs.Boot.{booted_table}
-use Rattle.ec_model.specs.HostCalls.{on_after_entry}
+use Rattle.ec_model.specs.HostCalls.{HostCall, calls_of, on_after, on_after_entry}
 use Rattle.ec_model.specs.WholeStep.{stepped}
 use Rattle.ec_model.specs.declared.event.Event.{Event}
 use Rattle.ec_model.specs.Table.{Table}
@@ -17,6 +18,9 @@ use Rattle.ec_model.specs.declared.event.Entry.TheVariants.{Step}
 use Rattle.ec_model.specs.declared.event.Event.TheVariants.{Power}
 use Rattle.ec_model.specs.declared.event.Hurt.{Hurt}
 use Rattle.ec_model.specs.declared.event.Hurt.TheVariants.{Whole, Cut}
+use Rattle.ec_wire.specs.Calls.{is_wire_step}
+use Rattle.ec_wire.specs.Quiet.{quiet_entry}
+use Rattle.host_runs.specs.Calm.{CallsLead}
 use Rattle.ectool_lines.specs.Running.{Appends}
 use Rattle.ectool_lines.specs.Asking.{Hears}
 use Rattle.ectool_lines.specs.Answering.{Answers}
@@ -72,9 +76,15 @@ StartsOn boot on = on ≡ true
 abbrev pub HappensSeen : Bool → Event → Hurt → Bool → Type 0
 HappensSeen old event hurt new = (new ≡ on_after_entry (Step event 0 0 0 hurt) old) × (hurt ≡ Cut → old ≡ true)
 
+-- as the host sees it: the entries are those of its calls, and each is one that a call of a wire adds
+pub record MakesSeen (old : Bool) (calls : List HostCall) (entries : List Entry) (new : Bool) : Type 0 where
+  pub calls_are : calls_of entries ≡ calls
+  pub steps : IsTrue (list_all is_wire_step entries)
+  pub on_is : new ≡ on_after entries old
+
 -- a controller as the host sees it: whether it is on
 abbrev pub seen : Life Bool
-seen = record { asks = Hears Lpc; happens = HappensSeen }
+seen = record { asks = Hears Lpc; happens = HappensSeen; makes = MakesSeen }
 
 -- what each exit says, as the host sees it
 abbrev pub EndsAsSeen : Exit → List (List ℕ) → (size : ℕ) → (left rest before after : Option (List ℕ)) → List Entry → Type 0
@@ -88,9 +98,14 @@ StartsBooted flash boot table = (boot ≡ Whole) × (table ≡ booted_table flas
 abbrev pub HappensWhole : Table → Event → Hurt → Table → Type 0
 HappensWhole old event hurt new = (hurt ≡ Whole) × (new ≡ (stepped old event).table)
 
+-- where nothing disturbs it: each entry is that of its call, and the calls lead from one state to the other
+pub record MakesWhole (old : Table) (calls : List HostCall) (entries : List Entry) (new : Table) : Type 0 where
+  pub entries_are : entries ≡ map quiet_entry calls
+  pub leads : CallsLead old calls new
+
 -- a controller that nothing disturbs but the events of the script's lines: all that it holds
 abbrev pub undisturbed : Life Table
-undisturbed = record { asks = Answers; happens = HappensWhole }
+undisturbed = record { asks = Answers; happens = HappensWhole; makes = MakesWhole }
 
 -- what each exit says, where nothing fails in a flash with these bytes
 abbrev pub EndsUndisturbed : List ℕ → Exit → List (List ℕ) → (size : ℕ) → (left rest before after : Option (List ℕ)) → List Entry → Type 0

@@ -9,6 +9,7 @@ use Rattle.ec_model.specs.declared.event.Event.TheVariants as event
 use Rattle.ec_model.specs.declared.event.Entry.{Entry}
 use Rattle.ec_model.specs.declared.event.Entry.TheVariants.{Step, Mark}
 use Rattle.ec_model.specs.declared.event.Hurt.{Hurt}
+use Rattle.ec_model.specs.HostCalls.{HostCall}
 use Rattle.ec_model.specs.Upset.{is_world, is_changed}
 use Rattle.host_transport.specs.Once.{Ending}
 use Rattle.script_words.specs.Forms.{◌>>=◌}
@@ -20,12 +21,15 @@ use Rattle.ectool_lines.specs.Tools.{tool_of, IsInRange}
 use Rattle.ectool_lines.specs.Requests.{Asked, commands_of}
 use Rattle.ectool_lines.specs.Texts.{LineEnd, line_text, printed}
 use Rattle.ectool_lines.specs.Asking.{AsksEach}
+use Rattle.raw_lines.specs.Raw.{Raw, Waits, Writes, Reads, IsRaw}
 
--- what a line wants: nothing, that commands are sent, or that an event of the world happens
+-- what a line wants: nothing, that commands are sent, that an event of the world happens, or that the host makes calls of
+-- its own
 pub data Deed : Type 0 where
   Nothing : Deed
   Asks : Tool → Deed
   Happens : Event → Deed
+  Makes : Raw → Deed
 
 -- what a line wants that was read so far
 abbrev pub deed_by : List ℕ → Line → Result Deed Why
@@ -34,16 +38,20 @@ deed_by text line.Tool = tool_of text >>= λ tool. Ok (Asks tool)
 deed_by text (line.Pin on) = Ok (Happens (event.Pin on))
 deed_by text (line.Power on) = Ok (Happens (event.Power on))
 deed_by text (line.Reset cause) = Ok (Happens (event.Reset cause))
+deed_by text (line.Tick count) = Ok (Makes (Waits count))
+deed_by text (line.PortsOut port bytes) = Ok (Makes (Writes port bytes))
+deed_by text (line.PortsIn port count) = Ok (Makes (Reads port count))
 
 -- what a line wants, or its first fault
 abbrev pub deed_of : List ℕ → Result Deed Why
 deed_of text = line_of text >>= λ read. deed_by text read
 
--- How a controller lives, by a state of it: how one command goes, and how an event of the world does. So the same words tell
--- what the host sees of any controller, and what one that nothing disturbs does.
+-- How a controller lives, by a state of it: how one command goes, how an event of the world does, and how calls of the host
+-- do. So the same words tell what the host sees of any controller, and what one that nothing disturbs does.
 pub record Life (State : Type 0) : Type 1 where
   pub asks : State → Asked → List Entry → Ending → State → Type 0
   pub happens : State → Event → Hurt → State → Type 0
+  pub makes : State → List HostCall → List Entry → State → Type 0
 
 -- a line was carried out: its mark, its commands in their order, and its text by how they ended; no event of the world falls
 -- among its entries, and no byte is changed
@@ -70,6 +78,22 @@ pub record HappensOnce {State : Type 0} (life : Life State)
   pub goes : life.happens old event hurt new
   pub said_is : said ≡ printed (codes "ok")
 
+-- a line's calls were made: its mark, its calls in their order, and its text by what the host got; no event of the world
+-- falls among its entries, and no byte is changed
+pub record MakesCalls {State : Type 0} (life : Life State)
+    (number : ℕ) (old : State) (text : List ℕ) (entries : List Entry) (said : List ℕ) (new : State) : Type 0 where
+  pub raw : Raw
+  pub calls : List HostCall
+  pub words : List ℕ
+  pub own : List Entry
+  pub wants : deed_of text ≡ Ok (Makes raw)
+  pub entries_are : entries ≡ Mark number ∷ own
+  pub alone : IsFalse (list_any is_world own)
+  pub unchanged : IsFalse (list_any is_changed own)
+  pub is_raw : IsRaw raw calls words
+  pub goes : life.makes old calls own new
+  pub said_is : said ≡ printed words
+
 -- a line that wants nothing was passed over
 pub record PassesOver {State : Type 0} (old : State) (text : List ℕ) (entries : List Entry) (said : List ℕ) (new : State) : Type 0 where
   pub wants : deed_of text ≡ Ok Nothing
@@ -82,6 +106,7 @@ pub data DoesDeed {State : Type 0} (life : Life State)
     (number : ℕ) (old : State) (text : List ℕ) (entries : List Entry) (said : List ℕ) (new : State) : Type 0 where
   WasCarried : CarriesOut life number old text entries said new → DoesDeed life number old text entries said new
   HasHappened : HappensOnce life number old text entries said new → DoesDeed life number old text entries said new
+  HasMade : MakesCalls life number old text entries said new → DoesDeed life number old text entries said new
 
 -- a line was done, or passed over where it wants nothing
 pub data IsDone {State : Type 0} (life : Life State)

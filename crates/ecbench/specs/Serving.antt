@@ -12,12 +12,14 @@ use Rattle.ectool_lines.specs.declared.tool.Tool.{Tool}
 use Rattle.ectool_lines.specs.Tools.{IsInRange}
 use Rattle.ectool_lines.specs.Texts.{printed}
 use Rattle.ectool_lines.specs.Running.{Appends, AppendsFront, Carries}
+use Rattle.raw_lines.specs.Raw.{Raw}
+use Rattle.raw_lines.specs.Making.{MakesRaw}
 use Rattle.ecbench.specs.declared.run.Exit.{Exit}
 use Rattle.ecbench.specs.declared.run.Exit.TheVariants.{Done, BadLine, SinkFault, NoMemory, ScriptTooLong}
 use Rattle.line_reader.specs.declared.reader.Next.{Next}
 use Rattle.line_reader.specs.declared.reader.Next.TheVariants.{Line, Last, End, TooLong, Full}
 use Rattle.ec_types.specs.declared.why.Why.TheVariants as why
-use Rattle.ecbench.specs.Lines.{Nothing, Asks, Happens, deed_of, IsFaulty}
+use Rattle.ecbench.specs.Lines.{Nothing, Asks, Happens, Makes, deed_of, IsFaulty}
 use Rattle.ecbench.specs.Scripts.{PlaysUpTo}
 use Rattle.ecbench.specs.Endings.{power_on, seen}
 
@@ -56,10 +58,19 @@ pub record HappensLine (number : ℕ) (line : List ℕ) (old new : WireView) : T
   pub alive : hurt ≡ Cut → marked.on ≡ true
   pub adds : Adds (Step event 0 0 0 hurt) marked new
 
+-- a line was marked, and the calls that it wants were made; this is its text without the line feed
+pub record MakesLine (number : ℕ) (line words : List ℕ) (old new : WireView) : Type 0 where
+  pub raw : Raw
+  pub wants : deed_of line ≡ Ok (Makes raw)
+  pub marked : WireView
+  pub marks : MarksLine number old marked
+  pub makes : MakesRaw raw words marked new
+
 -- a line was done, and this is its text
 pub data DoesLine (number : ℕ) (line text : List ℕ) (old new : WireView) : Type 0 where
   Carried : CarriesLine number line text old new → DoesLine number line text old new
   Happened : HappensLine number line old new → text ≡ printed (codes "ok") → DoesLine number line text old new
+  Made : (words : List ℕ) → MakesLine number line words old new → text ≡ printed words → DoesLine number line text old new
 
 -- a line that does nothing was passed over
 pub record PassesLine (line : List ℕ) (old new : WireView) (before after : Option (List ℕ)) : Type 0 where
@@ -102,6 +113,23 @@ ServesEvent (Err SinkFault) number happened old new before after =
     HappensMarked number happened old new × AppendsFront (printed (codes "ok")) before after
 ServesEvent (Err NoMemory) number happened old new before after = (new ≡ old) × Appends [] before after
 ServesEvent (Err other) number happened old new before after = ⊥
+
+-- calls of the host were made behind a line's mark
+pub record MakesMarked (number : ℕ) (raw : Raw) (words : List ℕ) (old new : WireView) : Type 0 where
+  pub marked : WireView
+  pub marks : MarksLine number old marked
+  pub makes : MakesRaw raw words marked new
+
+-- what was done with calls of the host: they were made, and their text was printed, whole or in part; or memory was refused,
+-- and the line was marked at most
+abbrev pub ServesRaw : Result (Unit {0}) Exit → ℕ → Raw → WireView → WireView → (before after : Option (List ℕ)) → Type 0
+ServesRaw (Ok done) number raw old new before after =
+    (words : List ℕ) × MakesMarked number raw words old new × Appends (printed words) before after
+ServesRaw (Err SinkFault) number raw old new before after =
+    (words : List ℕ) × MakesMarked number raw words old new × AppendsFront (printed words) before after
+ServesRaw (Err NoMemory) number raw old new before after =
+    ((new ≡ old) ⊎ MarksLine number old new) × Appends [] before after
+ServesRaw (Err other) number raw old new before after = ⊥
 
 -- a script was served as far as the exit says
 pub record Serves (exit : Exit) (old new : WireView) (left rest before after : Option (List ℕ)) : Type 0 where

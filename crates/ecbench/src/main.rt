@@ -1,6 +1,8 @@
 //! The bench: a Chromebook's embedded controller and its host in one process, driven by a script on standard input.
 #![tactic(auto)]
 
+mod marking;
+mod raw;
 mod run;
 mod serving;
 #[cfg(test)]

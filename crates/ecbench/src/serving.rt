@@ -1,12 +1,14 @@
 // A script, served line by line.
-ghost use Rattle.std.specs.Prelude.{◌≡◌, ◌≤◌, ◌↔◌, false, IsTrue, IsFalse, OnOk};
+ghost use Rattle.std.specs.Prelude.{◌≡◌, ◌≤◌, ◌↔◌, false, IsTrue, IsFalse};
 ghost use Rattle.flash_dev.specs.Counts.{Rose};
 ghost use Rattle.ec_types.specs.declared.bus.BusKind.TheVariants.{Lpc as LpcKind};
 ghost use Rattle.bench_wire.specs.BenchView.{wire_view};
 ghost use Rattle.bench_wire.specs.Adding.{is_byte};
 ghost use Rattle.script_lines.specs.Lines.{line_of};
-ghost use Rattle.ecbench.specs.Serving.{Drives, Serves, PowersOn, ServesLine, ServesEvent, BeginsLine, exit_at};
+ghost use Rattle.ecbench.specs.Serving.{Drives, Serves, PowersOn, ServesLine, ServesEvent, exit_at};
 
+use crate::marking::begin;
+use crate::raw::{serve_in, serve_out, serve_tick};
 use crate::run::Exit;
 use bench_io::{Sink, Source, put_all};
 use bench_wire::Bench;
@@ -118,6 +120,15 @@ fn serve_line<F: FlashDev, K: Sink>(
         Ok(Line::Pin { on }) => serve_event(bench, number, WorldEvent::Pin { on }, sink),
         Ok(Line::Power { on }) => serve_event(bench, number, WorldEvent::Power { on }, sink),
         Ok(Line::Reset { cause }) => serve_event(bench, number, WorldEvent::Reset { cause }, sink),
+        Ok(Line::Tick { count }) => serve_tick(bench, number, count, sink),
+        Ok(Line::PortsOut { port, bytes }) => serve_out(
+            bench,
+            number,
+            port,
+            bytes.as_slice(),
+            sink,
+        ),
+        Ok(Line::PortsIn { port, count }) => serve_in(bench, number, port, count, sink),
         Err(why) => Err(Exit::BadLine { line: number, why }),
     }
 }
@@ -164,17 +175,4 @@ fn serve_event<F: FlashDev, K: Sink>(
         Ok(()) => Ok(()),
         Err(Failed) => Err(Exit::SinkFault),
     }
-}
-
-// Makes room for a line's mark and for one event behind it, and marks the line.
-fn begin<F: FlashDev>(bench: &mut Bench<Lpc, F>, number: u32) -> Result<(), Exit>
-    ensures begins { BeginsLine result number (wire_view LpcKind bench.old) (wire_view LpcKind bench.new) }
-    ensures room { OnOk result (1 ≤ bench.new.spare) }
-{
-    match bench.reserve(2) {
-        Ok(()) => {}
-        Err(_) => return Err(Exit::NoMemory),
-    }
-    bench.mark(number);
-    Ok(())
 }

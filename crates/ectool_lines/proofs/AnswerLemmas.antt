@@ -57,7 +57,7 @@ calm-both (entry ∷ first) second calm = later (is_upset entry) (calm-both firs
     later false rest same = rest same
 
 -- the controller stays on in quiet calls
-quiet-on : (calls : List HostCall) (on : Bool) → on_after (map quiet_entry calls) on ≡ on
+pub quiet-on : (calls : List HostCall) (on : Bool) → on_after (map quiet_entry calls) on ≡ on
 quiet-on [] on = refl
 quiet-on (Did access byte ∷ calls) on = quiet-on calls on
 quiet-on (Waited ∷ calls) on = quiet-on calls on

@@ -1,16 +1,16 @@
 -- The lines of a script that are no tool lines.
-use Rattle.std.specs.Prelude.{ℕ, Bool, true, false, List, [], ◌∷◌, codes, Option, Some, None, Result, Ok, if◌then◌else◌}
+use Rattle.std.specs.Prelude.{ℕ, ◌+◌, ◌≤◌, Bool, true, false, List, [], ◌∷◌, length, codes, Option, Some, None, Result, Ok, Err, nat_le, if◌then◌else◌}
 use Rattle.std.specs.Option.{ok_or}
 use Rattle.std.specs.Str.{bytes_eq}
 use Rattle.ec_types.specs.declared.why.Why.{Why}
-use Rattle.ec_types.specs.declared.why.Why.TheVariants.{Word}
+use Rattle.ec_types.specs.declared.why.Why.TheVariants.{Word, Number}
 use Rattle.ec_model.specs.declared.event.WorldReset.{WorldReset}
 use Rattle.ec_model.specs.declared.event.WorldReset.TheVariants.{Pin as PinReset, Watchdog}
 use Rattle.script_words.specs.Words.{words_of}
 use Rattle.script_words.specs.Lines.{checked, does_nothing}
-use Rattle.script_words.specs.Forms.{◌>>=◌, with_one}
+use Rattle.script_words.specs.Forms.{◌>>=◌, two_words, with_one, number_to, hex_to}
 use Rattle.script_lines.specs.declared.line.Line.{Line}
-use Rattle.script_lines.specs.declared.line.Line.TheVariants.{Nothing, Tool, Pin, Power, Reset}
+use Rattle.script_lines.specs.declared.line.Line.TheVariants.{Nothing, Tool, Pin, Power, Reset, Tick, PortsOut, PortsIn}
 
 -- whether a word says on or off
 abbrev pub switch_named : List ℕ → Option Bool
@@ -31,6 +31,28 @@ cause_named word =
 abbrev pub cause_to : List ℕ → Result WorldReset Why
 cause_to word = ok_or (cause_named word) Word
 
+-- a word that is a number, of at least one and at most so large
+abbrev pub count_to : ℕ → List ℕ → Result ℕ Why
+count_to most word = number_to most word >>= λ number. if nat_le 1 number then Ok number else Err Number
+
+-- bytes for ports in a row, the last of which is at most 65,535
+abbrev pub ports_out : ℕ → List ℕ → Result Line Why
+ports_out port bytes = if nat_le (port + length bytes) 65536 then Ok (PortsOut port bytes) else Err Number
+
+-- a first port and bytes; that there are as many ports is tested last
+abbrev pub out_by : List (List ℕ) → Result Line Why
+out_by words =
+    two_words words >>= λ pair. number_to 65535 pair.0 >>= λ port. hex_to 8192 pair.1 >>= λ bytes. ports_out port bytes
+
+-- so many ports in a row, the last of which is at most 65,535
+abbrev pub ports_in : ℕ → ℕ → Result Line Why
+ports_in port count = if nat_le (port + count) 65536 then Ok (PortsIn port count) else Err Number
+
+-- a first port and how many are read
+abbrev pub in_by : List (List ℕ) → Result Line Why
+in_by words =
+    two_words words >>= λ pair. number_to 65535 pair.0 >>= λ port. count_to 4096 pair.1 >>= λ count. ports_in port count
+
 -- a line by its words: the first one, how many stand behind it, and what each of these is
 abbrev pub line_by : List (List ℕ) → Result Line Why
 line_by [] = Ok Tool
@@ -38,8 +60,18 @@ line_by (first ∷ words) =
     if bytes_eq first (codes "pin") then with_one switch_to Pin words else
     if bytes_eq first (codes "power") then with_one switch_to Power words else
     if bytes_eq first (codes "reset") then with_one cause_to Reset words else
+    if bytes_eq first (codes "tick") then with_one (count_to 100000) Tick words else
+    if bytes_eq first (codes "out") then out_by words else
+    if bytes_eq first (codes "in") then in_by words else
     Ok Tool
 
 -- a line, or its first fault
 abbrev pub line_of : List ℕ → Result Line Why
 line_of line = if does_nothing line then Ok Nothing else checked line >>= λ _. line_by (words_of line)
+
+-- the numbers and bytes that a line may have: each port is at most 65,535
+abbrev pub IsInRange : Line → Type 0
+IsInRange (Tick count) = (1 ≤ count) × (count ≤ 100000)
+IsInRange (PortsOut port bytes) = (1 ≤ length bytes) × (port + length bytes ≤ 65536)
+IsInRange (PortsIn port count) = (1 ≤ count) × (count ≤ 4096) × (port + count ≤ 65536)
+IsInRange other = Unit {0}

@@ -1,19 +1,23 @@
 // Reading a line.
-ghost use Rattle.std.specs.Prelude.{◌≡◌, ◌∷◌};
+ghost use Rattle.std.specs.Prelude.{◌≡◌, ◌≤◌, ◌∷◌, length, IfOk};
 ghost use Rattle.script_words.specs.Words.{words_of};
 ghost use Rattle.script_words.specs.Forms.{with_one};
-ghost use Rattle.script_lines.specs.Lines.{switch_to, switch_named, cause_to, cause_named, line_of, line_by};
+ghost use Rattle.script_lines.specs.Lines.{switch_to, switch_named, cause_to, cause_named, count_to, ports_out, out_by, ports_in, in_by, line_of, line_by, IsInRange};
 
 use crate::Line;
 use ec_model::WorldReset;
-use ec_types::Why;
-use script_words::{check_line, is_idle, is_word, next_word, one_word};
+use ec_types::{LineBytes, Why};
+use script_words::{
+    check_line, hex_to, is_idle, is_word, next_word, number_to, one_word, two_words,
+};
 
 /// What a line without its line feed says, or the first thing that is wrong with it: `TooLong`, `Ascii`, then, where its
-/// first word is one of these lines', `Count` where none with that first word has so many words, and at last `Word` for
-/// the first word from the left that is not what it should be.
+/// first word is one of these lines', `Count` where none with that first word has so many words, and at last `Word`,
+/// `Number` or `Hex` for the first word from the left that is not what it should be. Ports above 65,535 are told as
+/// `Number` where each word for itself is what it should be.
 pub fn parse(line: &[u8]) -> Result<Line, Why>
-    ensures { result ≡ line_of line.now }
+    ensures line { result ≡ line_of line.now }
+    ensures within { IfOk result IsInRange }
 {
     if is_idle(line) {
         return Ok(Line::Nothing);
@@ -27,7 +31,8 @@ pub fn parse(line: &[u8]) -> Result<Line, Why>
 
 // The line with this first word, and the others after it.
 fn by_words(first: &[u8], rest: &[u8]) -> Result<Line, Why>
-    ensures { result ≡ line_by (first.now ∷ words_of rest.now) }
+    ensures line { result ≡ line_by (first.now ∷ words_of rest.now) }
+    ensures within { IfOk result IsInRange }
 {
     if is_word(first, b"pin") {
         pin(rest)
@@ -35,6 +40,12 @@ fn by_words(first: &[u8], rest: &[u8]) -> Result<Line, Why>
         power(rest)
     } else if is_word(first, b"reset") {
         reset(rest)
+    } else if is_word(first, b"tick") {
+        tick(rest)
+    } else if is_word(first, b"out") {
+        ports_out(rest)
+    } else if is_word(first, b"in") {
+        ports_in(rest)
     } else {
         Ok(Line::Tool)
     }
@@ -67,7 +78,8 @@ fn cause_named(word: &[u8]) -> Option<WorldReset>
 }
 
 fn pin(words: &[u8]) -> Result<Line, Why>
-    ensures { result ≡ with_one switch_to Line.Pin (words_of words.now) }
+    ensures line { result ≡ with_one switch_to Line.Pin (words_of words.now) }
+    ensures within { IfOk result IsInRange }
 {
     let word = one_word(words)?;
     let on = switch_named(word).ok_or(Why::Word)?;
@@ -75,7 +87,8 @@ fn pin(words: &[u8]) -> Result<Line, Why>
 }
 
 fn power(words: &[u8]) -> Result<Line, Why>
-    ensures { result ≡ with_one switch_to Line.Power (words_of words.now) }
+    ensures line { result ≡ with_one switch_to Line.Power (words_of words.now) }
+    ensures within { IfOk result IsInRange }
 {
     let word = one_word(words)?;
     let on = switch_named(word).ok_or(Why::Word)?;
@@ -83,9 +96,64 @@ fn power(words: &[u8]) -> Result<Line, Why>
 }
 
 fn reset(words: &[u8]) -> Result<Line, Why>
-    ensures { result ≡ with_one cause_to Line.Reset (words_of words.now) }
+    ensures line { result ≡ with_one cause_to Line.Reset (words_of words.now) }
+    ensures within { IfOk result IsInRange }
 {
     let word = one_word(words)?;
     let cause = cause_named(word).ok_or(Why::Word)?;
     Ok(Line::Reset { cause })
+}
+
+// A number of at least one and at most `most`.
+fn count_to(word: &[u8], most: u32) -> Result<u32, Why>
+    ensures number { result ≡ count_to most word.now }
+    ensures least { IfOk result (λ number. 1 ≤ number) }
+    ensures most { IfOk result (λ number. number ≤ most) }
+{
+    match number_to(word, most)? {
+        0 => Err(Why::Number),
+        number => Ok(number),
+    }
+}
+
+fn tick(words: &[u8]) -> Result<Line, Why>
+    ensures line { result ≡ with_one (count_to 100000) Line.Tick (words_of words.now) }
+    ensures within { IfOk result IsInRange }
+{
+    let count = one_word(words)?;
+    Ok(Line::Tick {
+        count: count_to(count, 100_000)?,
+    })
+}
+
+fn ports_out(words: &[u8]) -> Result<Line, Why>
+    ensures line { result ≡ out_by (words_of words.now) }
+    ensures within { IfOk result IsInRange }
+{
+    let (port, bytes) = two_words(words)?;
+    let port = number_to(port, 65535)?;
+    let bytes = hex_to(bytes, 8192)?;
+    if port as usize + bytes.as_slice().len() > 65536 {
+        return Err(Why::Number);
+    }
+    Ok(Line::PortsOut {
+        port: port as u16,
+        bytes,
+    })
+}
+
+fn ports_in(words: &[u8]) -> Result<Line, Why>
+    ensures line { result ≡ in_by (words_of words.now) }
+    ensures within { IfOk result IsInRange }
+{
+    let (port, count) = two_words(words)?;
+    let port = number_to(port, 65535)?;
+    let count = count_to(count, 4096)?;
+    if port + count > 65536 {
+        return Err(Why::Number);
+    }
+    Ok(Line::PortsIn {
+        port: port as u16,
+        count: count as u16,
+    })
 }

@@ -1,8 +1,9 @@
 // What a line says.
 use ec_model::WorldReset;
+use ec_types::LineBytes;
 
 /// What a line of a script says.
-#[derive(Clone, Copy, Debug, PartialEq, Eq)]
+#[derive(Drop)]
 pub enum Line {
     /// It does nothing: it is empty, has spaces alone, or begins with `#`.
     Nothing,
@@ -21,5 +22,24 @@ pub enum Line {
     /// `reset pin`, `reset watchdog`: a reset from outside.
     Reset {
         cause: WorldReset,
+    },
+    /// `tick N`: the host waits.
+    Tick {
+        /// How often, 1 to 100,000 times.
+        count: u32,
+    },
+    /// `out P HEX`: bytes are written to ports in a row, the last of which is at most 65,535.
+    PortsOut {
+        /// The first port.
+        port: u16,
+        /// At least one byte, one for each port.
+        bytes: LineBytes,
+    },
+    /// `in P N`: ports in a row are read, the last of which is at most 65,535.
+    PortsIn {
+        /// The first port.
+        port: u16,
+        /// How many ports, 1 to 4,096.
+        count: u16,
     },
 }

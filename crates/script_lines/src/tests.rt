@@ -4,27 +4,71 @@ use ec_model::WorldReset;
 use ec_types::Why;
 
 #[test]
-fn lines_are_read(rt: HostRuntime) {
-    let pin = WorldReset::Pin;
-    let watchdog = WorldReset::Watchdog;
+fn events_are_read(rt: HostRuntime) {
+    assert!(rt; matches!(parse(b""), Ok(Line::Nothing)));
+    assert!(rt; matches!(parse(b"# pin on"), Ok(Line::Nothing)));
+    assert!(rt; matches!(parse(b"hello"), Ok(Line::Tool)));
+    assert!(rt; matches!(parse(b" pin  on "), Ok(Line::Pin { on: true })));
+    assert!(rt; matches!(parse(b"power off"), Ok(Line::Power { on: false })));
     for (line, want) in [
-        (b"".as_slice(), Line::Nothing),
-        (b"# pin on", Line::Nothing),
-        (b"hello", Line::Tool),
-        (b" pin  on ", Line::Pin { on: true }),
-        (b"power off", Line::Power { on: false }),
-        (b"reset pin", Line::Reset { cause: pin }),
-        (b"reset watchdog", Line::Reset { cause: watchdog }),
+        (b"reset pin".as_slice(), WorldReset::Pin),
+        (b"reset watchdog", WorldReset::Watchdog),
     ] {
-        assert_eq!(rt; parse(line), Ok(want));
+        match parse(line) {
+            Ok(Line::Reset { cause }) => assert_eq!(rt; cause, want),
+            _ => assert!(rt; false),
+        }
     }
-    for (line, why) in [
+}
+
+#[test]
+fn ticks_and_ports_are_read(rt: HostRuntime) {
+    assert!(rt; matches!(parse(b"tick 100000"), Ok(Line::Tick { count: 100_000 })));
+    for (line, want) in [
+        (b"in 0x200 1".as_slice(), (0x200, 1)),
+        (b"in 61440 0x1000", (61_440, 4096)),
+        (b"in 65535 1", (65_535, 1)),
+    ] {
+        match parse(line) {
+            Ok(Line::PortsIn { port, count }) => assert_eq!(rt; (port, count), want),
+            _ => assert!(rt; false),
+        }
+    }
+    for (line, want) in [
+        (b"out 0x204 dA".as_slice(), (0x204, b"\xDA".as_slice())),
+        (b"out 65534 0a0B", (65_534, b"\x0A\x0B")),
+    ] {
+        match parse(line) {
+            Ok(Line::PortsOut { port, bytes }) => assert_eq!(rt; (port, bytes.as_slice()), want),
+            _ => assert!(rt; false),
+        }
+    }
+}
+
+#[test]
+fn the_first_fault_counts(rt: HostRuntime) {
+    for (line, want) in [
         (b"pin".as_slice(), Why::Count),
         (b"pin on off", Why::Count),
         (b"pin up", Why::Word),
         (b"reset cold", Why::Word),
         (b"power\ton", Why::Ascii),
+        (b"tick", Why::Count),
+        (b"tick 0", Why::Number),
+        (b"tick 100001", Why::Number),
+        (b"out 1", Why::Count),
+        (b"out 0x10000 0", Why::Number),
+        (b"out 65535 0", Why::Hex),
+        (b"out 65535 0001", Why::Number),
+        (b"in 1 2 3", Why::Count),
+        (b"in 0x10000 1", Why::Number),
+        (b"in 0 0", Why::Number),
+        (b"in 0 4097", Why::Number),
+        (b"in 65535 2", Why::Number),
     ] {
-        assert_eq!(rt; parse(line), Err(why));
+        match parse(line) {
+            Err(why) => assert_eq!(rt; why, want),
+            Ok(_) => assert!(rt; false),
+        }
     }
 }

@@ -1,27 +1,53 @@
-use Rattle.std.proofs.Common.{◌≡◌, ap, sym, ◌∙◌, Ok}
+use Rattle.std.proofs.Common.{◌≡◌, ap, sym, subst, ◌∙◌, ℕ, List, Ok}
+use Rattle.ec_types.specs.declared.bus.BusKind.TheVariants.{Lpc as LpcKind}
 use Rattle.ec_model.specs.declared.event.Event.TheVariants as event
 use Rattle.ec_model.specs.declared.event.WorldEvent.TheVariants as world
 use Rattle.script_lines.specs.declared.line.Line.{Line}
 use Rattle.script_lines.specs.declared.line.Line.TheVariants as line
 use Rattle.script_lines.specs.Lines.{line_of}
-use Rattle.ecbench.proofs.Adding.{event-serves}
+use Rattle.bench_wire.specs.BenchView.{wire_view}
+use Rattle.raw_lines.specs.Raw.{Waits, Writes, Reads}
+use Rattle.ecbench.specs.Serving.{ServesRaw}
+use Rattle.ecbench.proofs.Adding.{event-serves, raw-serves}
 use Rattle.ecbench.proofs.EventLemmas.{deed-read}
 use Rattle.ecbench.proofs.serving.serve_line.Goals as goal
 
 pub returns-in-Ok-Pin-clause-serves : goal.returns-in-Ok-Pin-clause-serves
 returns-in-Ok-Pin-clause-serves g c =
     let read = line.Pin c.in-Ok-Pin.on in
-    let is : line_of c.args.line.now ≡ Ok read = sym c.parse.ensures ∙ c.in-Ok-Pin.is ∙ ap (λ (found : Line). Ok found) c.in-Ok-Pin.field-0-is in
+    let is : line_of c.args.line.now ≡ Ok read = sym c.parse.ensures.line ∙ c.in-Ok-Pin.is ∙ ap (λ (found : Line). Ok found) c.in-Ok-Pin.field-0-is in
     event-serves c.serve_event.result c.args.number c.args.line.now (world.Pin c.in-Ok-Pin.on) (event.Pin c.in-Ok-Pin.on) _ _ _ _ (deed-read c.args.line.now read is) (λ other same. same) c.serve_event.ensures.serves
 
 pub returns-in-Ok-Power-clause-serves : goal.returns-in-Ok-Power-clause-serves
 returns-in-Ok-Power-clause-serves g c =
     let read = line.Power c.in-Ok-Power.on in
-    let is : line_of c.args.line.now ≡ Ok read = sym c.parse.ensures ∙ c.in-Ok-Power.is ∙ ap (λ (found : Line). Ok found) c.in-Ok-Power.field-0-is in
+    let is : line_of c.args.line.now ≡ Ok read = sym c.parse.ensures.line ∙ c.in-Ok-Power.is ∙ ap (λ (found : Line). Ok found) c.in-Ok-Power.field-0-is in
     event-serves c.serve_event-in-Ok-Power.result c.args.number c.args.line.now (world.Power c.in-Ok-Power.on) (event.Power c.in-Ok-Power.on) _ _ _ _ (deed-read c.args.line.now read is) (λ other same. same) c.serve_event-in-Ok-Power.ensures.serves
 
 pub returns-in-Ok-Reset-clause-serves : goal.returns-in-Ok-Reset-clause-serves
 returns-in-Ok-Reset-clause-serves g c =
     let read = line.Reset c.in-Ok-Reset.cause in
-    let is : line_of c.args.line.now ≡ Ok read = sym c.parse.ensures ∙ c.in-Ok-Reset.is ∙ ap (λ (found : Line). Ok found) c.in-Ok-Reset.field-0-is in
+    let is : line_of c.args.line.now ≡ Ok read = sym c.parse.ensures.line ∙ c.in-Ok-Reset.is ∙ ap (λ (found : Line). Ok found) c.in-Ok-Reset.field-0-is in
     event-serves c.serve_event-in-Ok-Reset.result c.args.number c.args.line.now (world.Reset c.in-Ok-Reset.cause) (event.Reset c.in-Ok-Reset.cause) _ _ _ _ (deed-read c.args.line.now read is) (λ other same. same) c.serve_event-in-Ok-Reset.ensures.serves
+
+pub returns-in-Ok-Tick-clause-serves : goal.returns-in-Ok-Tick-clause-serves
+returns-in-Ok-Tick-clause-serves g c =
+    let read = line.Tick c.in-Ok-Tick.count in
+    let is : line_of c.args.line.now ≡ Ok read = sym c.parse.ensures.line ∙ c.in-Ok-Tick.is ∙ ap (λ (found : Line). Ok found) c.in-Ok-Tick.field-0-is in
+    raw-serves c.serve_tick.result c.args.number c.args.line.now (Waits c.in-Ok-Tick.count) _ _ _ _ (deed-read c.args.line.now read is) c.serve_tick.ensures.serves
+
+pub returns-in-Ok-PortsOut-clause-serves : goal.returns-in-Ok-PortsOut-clause-serves
+returns-in-Ok-PortsOut-clause-serves g c =
+    let port = c.in-Ok-PortsOut.port in
+    let bytes = c.in-Ok-PortsOut.bytes in
+    let read = line.PortsOut port bytes in
+    let is : line_of c.args.line.now ≡ Ok read = sym c.parse.ensures.line ∙ c.in-Ok-PortsOut.is ∙ ap (λ (found : Line). Ok found) c.in-Ok-PortsOut.field-0-is in
+    let serves : ServesRaw c.serve_out.result c.args.number (Writes port bytes) (wire_view LpcKind c.args.bench.now) (wire_view LpcKind c.serve_out.new.bench) (g.K.Sink.written c.args.sink.now) (g.K.Sink.written c.serve_out.new.sink) =
+    subst (λ (slice : List ℕ). ServesRaw c.serve_out.result c.args.number (Writes port slice) (wire_view LpcKind c.args.bench.now) (wire_view LpcKind c.serve_out.new.bench) (g.K.Sink.written c.args.sink.now) (g.K.Sink.written c.serve_out.new.sink)) c.as_slice.ensures.bytes c.serve_out.ensures.serves in
+    raw-serves c.serve_out.result c.args.number c.args.line.now (Writes port bytes) _ _ _ _ (deed-read c.args.line.now read is) serves
+
+pub returns-in-Ok-PortsIn-clause-serves : goal.returns-in-Ok-PortsIn-clause-serves
+returns-in-Ok-PortsIn-clause-serves g c =
+    let read = line.PortsIn c.in-Ok-PortsIn.port c.in-Ok-PortsIn.count in
+    let is : line_of c.args.line.now ≡ Ok read = sym c.parse.ensures.line ∙ c.in-Ok-PortsIn.is ∙ ap (λ (found : Line). Ok found) c.in-Ok-PortsIn.field-0-is in
+    raw-serves c.serve_in.result c.args.number c.args.line.now (Reads c.in-Ok-PortsIn.port c.in-Ok-PortsIn.count) _ _ _ _ (deed-read c.args.line.now read is) c.serve_in.ensures.serves

@@ -1,0 +1,61 @@
+// Calls of the host, one after the other.
+ghost use Rattle.std.specs.Prelude.{◌≡◌, ◌≤◌, ◌+◌, [], length, replicate};
+ghost use Rattle.ec_model.specs.HostCalls.{Waited};
+ghost use Rattle.ec_model.specs.Heard.{port_reads};
+ghost use Rattle.ec_wire.specs.Calls.{Made};
+ghost use Rattle.raw_lines.specs.Making.{Reserves, WritesPorts};
+
+use ec_model::Access;
+use ec_types::LineBytes;
+use ec_wire::Wire;
+use ectool_lines::ToolErr;
+
+/// Makes room for so many calls.
+pub fn reserve<W: Wire>(w: &mut W, calls: usize) -> Result<(), ToolErr>
+    ensures { Reserves result calls (W.view w.old) (W.view w.new) }
+{
+    match w.reserve(calls) {
+        Ok(()) => Ok(()),
+        Err(_) => Err(ToolErr::NoMemory),
+    }
+}
+
+/// Waits so often.
+pub fn wait_times<W: Wire>(w: &mut W, count: u32)
+    requires { count ≤ (W.view w.old).spare }
+    ensures { Made (replicate count Waited) (W.view w.old) (W.view w.new) }
+{
+    for turn in 0..count {
+        w.wait();
+    }
+}
+
+/// Writes the bytes to the ports from this one on.
+pub fn write_in_row<W: Wire>(w: &mut W, port: u16, bytes: &[u8])
+    requires ports { port + length bytes.now ≤ 65536 }
+    requires room { length bytes.now ≤ (W.view w.old).spare }
+    ensures { WritesPorts port bytes.now (W.view w.old) (W.view w.new) }
+{
+    for (place, byte) in bytes.iter().enumerate() {
+        w.access(Access::PortOut {
+            port: port + place as u16,
+            byte: *byte,
+        });
+    }
+}
+
+/// Reads so many ports from this one on.
+pub fn read_in_row<W: Wire>(w: &mut W, port: u16, count: u16) -> LineBytes
+    requires ports { port + count ≤ 65536 }
+    requires few { count ≤ 4096 }
+    requires room { count ≤ (W.view w.old).spare }
+    ensures each { length result ≡ count }
+    ensures made { Made (port_reads port result) (W.view w.old) (W.view w.new) }
+{
+    let mut bytes = LineBytes::new();
+    for place in 0..count {
+        let byte = w.access(Access::PortIn { port: port + place });
+        bytes.extend(&[byte]);
+    }
+    bytes
+}

@@ -1,0 +1,57 @@
+// Each line: room for its calls, the calls, and its text.
+ghost use Rattle.std.specs.Prelude.{◌≡◌, ◌≤◌, ◌+◌, length};
+ghost use Rattle.flash_dev.specs.Counts.{Rose};
+ghost use Rattle.raw_lines.specs.Raw.{Waits, Writes, Reads};
+ghost use Rattle.raw_lines.specs.Making.{RunsRaw};
+
+use crate::calls::{read_in_row, reserve, wait_times, write_in_row};
+use crate::printing::{print, print_hex};
+use bench_io::Sink;
+use ec_wire::Wire;
+use ectool_lines::ToolErr;
+
+/// Waits so often, and prints `ok`.
+pub fn tick<W: Wire, K: Sink>(w: &mut W, count: u32, sink: &mut K) -> Result<(), ToolErr>
+    ensures runs { RunsRaw result (Waits count) (W.view w.old) (W.view w.new) (K.written sink.old) (K.written sink.new) }
+    ensures cause { result ≡ Err ToolErr.Sink → Rose (K.faults sink.old) (K.faults sink.new) }
+    ensures later { K.faults sink.old ≤ K.faults sink.new }
+{
+    reserve(w, count as usize)?;
+    wait_times(w, count);
+    print(sink, b"ok\n")
+}
+
+/// Writes the bytes to the ports from this one on, and prints `ok`.
+pub fn write_ports<W: Wire, K: Sink>(
+    w: &mut W,
+    port: u16,
+    bytes: &[u8],
+    sink: &mut K,
+) -> Result<(), ToolErr>
+    requires { port + length bytes.now ≤ 65536 }
+    ensures runs { RunsRaw result (Writes port bytes.now) (W.view w.old) (W.view w.new) (K.written sink.old) (K.written sink.new) }
+    ensures cause { result ≡ Err ToolErr.Sink → Rose (K.faults sink.old) (K.faults sink.new) }
+    ensures later { K.faults sink.old ≤ K.faults sink.new }
+{
+    reserve(w, bytes.len())?;
+    write_in_row(w, port, bytes);
+    print(sink, b"ok\n")
+}
+
+/// Reads so many ports from this one on, and prints the bytes that the host got.
+pub fn read_ports<W: Wire, K: Sink>(
+    w: &mut W,
+    port: u16,
+    count: u16,
+    sink: &mut K,
+) -> Result<(), ToolErr>
+    requires ports { port + count ≤ 65536 }
+    requires few { count ≤ 4096 }
+    ensures runs { RunsRaw result (Reads port count) (W.view w.old) (W.view w.new) (K.written sink.old) (K.written sink.new) }
+    ensures cause { result ≡ Err ToolErr.Sink → Rose (K.faults sink.old) (K.faults sink.new) }
+    ensures later { K.faults sink.old ≤ K.faults sink.new }
+{
+    reserve(w, usize::from(count))?;
+    let bytes = read_in_row(w, port, count);
+    print_hex(sink, bytes.as_slice())
+}
