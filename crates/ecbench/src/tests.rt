@@ -154,6 +154,31 @@ fn a_long_read_is_put_together(rt: HostRuntime) -> Result<(), Fail> {
 }
 
 #[test]
+fn raw_lines_reach_the_bus(rt: HostRuntime) -> Result<(), Fail> {
+    // Two blocks are erased; HELLO is put by hand; and ports that nothing answers, the last one among them.
+    for (script, text) in [
+        (
+            b"out 0x800 03e21300000008000080000000800000\nout 0x204 da\ntick 1\nin 0x200 1\nhello\ntick 8\nresend\nresend\nflashread 0x8000 4".as_slice(),
+            b"ok\nok\nok\n08\nEC result 16 (BUSY)\nok\nok\nEC result 9 (UNAVAILABLE)\nffffffff\n".as_slice(),
+        ),
+        (
+            b"out 0x800 03fc010000000400ffffffff\nout 0x204 DA\ntick 1\nin 0x800 12".as_slice(),
+            b"ok\nok\nok\n03f000000400000003030201\n".as_slice(),
+        ),
+        (
+            b"out 65535 00\nin 0xfffe 2\npower off\ntick 3\nin 0x204 1\nout 0x204 da\npower on\nhello".as_slice(),
+            b"ok\nffff\nok\nok\nff\nok\nok\nEC says hello!\n".as_slice(),
+        ),
+    ] {
+        let _entries = plays_whole(&rt, script, Exit::Done, text)?;
+    }
+    // The power-on, the mark and each wait.
+    let entries = plays_whole(&rt, b"tick 100000", Exit::Done, b"ok\n")?;
+    assert_eq!(rt; entries, 100_002);
+    Ok(())
+}
+
+#[test]
 fn a_faulty_line_ends_the_script(rt: HostRuntime) -> Result<(), Fail> {
     for (script, line, why, text) in [
         (b"hello\nhelo\nhello".as_slice(), 2, Why::Word, GREETING),
@@ -171,6 +196,7 @@ fn a_faulty_line_ends_the_script(rt: HostRuntime) -> Result<(), Fail> {
             b"".as_slice(),
         ),
         (b"hello\n# \t".as_slice(), 2, Why::Ascii, GREETING),
+        (b"tick 0".as_slice(), 1, Why::Number, b"".as_slice()),
         ([b'a'; 16_385].as_slice(), 1, Why::TooLong, b"".as_slice()),
     ] {
         let _entries = plays_whole(&rt, script, Exit::BadLine { line, why }, text)?;
