@@ -260,6 +260,30 @@ fn a_failing_flash_is_told_by_the_controller(rt: HostRuntime) -> Result<(), Fail
     Ok(())
 }
 
+#[test]
+fn an_erase_that_does_not_end_is_told(rt: HostRuntime) -> Result<(), Fail> {
+    // An erase of two blocks, the second of which fails.
+    let script = b"out 0x800 03421300000008000080000000200000\nout 0x204 da\ntick 3\nresend\nresend\nhello";
+    let flash = MemFlash::new(rt.alloc(), &ERASED, &[3])?;
+    let failed = (
+        Exit::Done,
+        b"ok\nok\nok\nEC result 2 (ERROR)\nEC result 9 (UNAVAILABLE)\nEC says hello!\n".as_slice(),
+    );
+    let _entries = plays(&rt, flash, script, (&[], &[]), failed)?;
+    // The same, with the power lost at its first block: the power-on does not go on with it.
+    let script = b"out 0x800 03421300000008000080000000200000\nout 0x204 da\ntick 2\nhello\npower on\nhello\nresend";
+    let dying = Dying {
+        cuts: 0,
+        fetched: 0,
+    };
+    let lost = (
+        Exit::Done,
+        b"ok\nok\nok\nEC has no power\nok\nEC says hello!\nEC result 9 (UNAVAILABLE)\n".as_slice(),
+    );
+    let _entries = plays(&rt, dying, script, (&[], &[]), lost)?;
+    Ok(())
+}
+
 // A run with this word on this flash is refused before the script is read.
 fn refuses<R: Abort + AllocGlobal>(
     rt: &R,
