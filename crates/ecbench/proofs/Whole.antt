@@ -7,13 +7,15 @@ use Rattle.flash_dev.specs.Ranges.{is_flash_size}
 use Rattle.ec_types.specs.declared.bus.BusKind.TheVariants.{Lpc}
 use Rattle.ec_model.specs.declared.event.Entry.{Entry}
 use Rattle.ec_model.specs.Table.{Table, off_table}
+use Rattle.ec_model.specs.Guarded.{guarded_bytes}
 use Rattle.ec_model.specs.Upset.{is_cut_entry}
+use Rattle.ec_model.proofs.RunLaws.{run-stays}
 use Rattle.ec_wire.specs.Calls.{RunsAlong, RoseBy, is_failed_entry}
 use Rattle.ec_wire.specs.Journals.{JournalView}
 use Rattle.ec_core.specs.View.{EcView}
 use Rattle.bench_wire.specs.BenchView.{BenchView, wire_view}
 use Rattle.ecbench.specs.declared.run.Exit.{Exit}
-use Rattle.ecbench.specs.Endings.{IsStarted, EndsAsSeen, EndsUndisturbed, RunsTo, NothingFailed}
+use Rattle.ecbench.specs.Endings.{IsStarted, EndsAsSeen, EndsUndisturbed, RunsTo, KeepsRo, NothingFailed}
 use Rattle.ecbench.specs.Serving.{Drives}
 use Rattle.ecbench.proofs.Powering.{Grew, drives-grew, drives-seen, drives-undisturbed}
 
@@ -28,6 +30,20 @@ runs-to entries (Some bytes) left (Some last) runs same = subst (λ (held : Opti
 pub runs-none : (held : Option (List ℕ)) → RunsTo [] held held
 runs-none None = tt
 runs-none (Some bytes) = (off_table bytes true Lpc, refl, refl)
+
+-- nothing of the flash changed
+pub keeps-none : (entries : List Entry) (held : Option (List ℕ)) → KeepsRo entries held held
+keeps-none entries None = tt
+keeps-none entries (Some bytes) = λ locked keeps. refl
+
+-- a run keeps guarded RO
+pub keeps-run : (entries : List Entry) (came left : Option (List ℕ)) → IfSome came (λ bytes. is_flash_size (length bytes) ≡ true) → RunsTo entries came left → KeepsRo entries came left
+keeps-run entries None None sized runs = tt
+keeps-run entries None (Some after) sized runs = absurd runs
+keeps-run entries (Some before) None sized runs = absurd runs
+keeps-run entries (Some before) (Some after) sized (last, run, same) = λ locked keeps.
+    ap guarded_bytes (sym same)
+    ∙ (run-stays (off_table before true Lpc) entries last (record { size = sized; power = tt }) (record { pin = refl; stored = locked; locked = refl }) keeps run).bytes
 
 -- a bench that is off, with the flash as it came
 pub record Opens (came : DeviceView) (bench : BenchView) : Type 0 where
@@ -108,3 +124,10 @@ run-undisturbed exit words came left bench after journal script rest before prin
     (drives-undisturbed came.held exit words came.extent (wire_view Lpc bench) (wire_view Lpc after) script rest before printed (told-allowed came.held came.extent whole started.sized) started opened.empty opened.table
     (λ rose. nothing.no_fault (subst (λ (device : DeviceView). Rose device.faults left.faults) opened.device (subst (λ (device : DeviceView). Rose bench.controller.device.faults device.faults) (sym hands.flash) rose)))
     (λ rose. nothing.no_cut (subst (λ (device : DeviceView). Rose device.cuts left.cuts) opened.device (subst (λ (device : DeviceView). Rose bench.controller.device.cuts device.cuts) (sym hands.flash) rose))) drives)
+
+-- guarded RO is kept
+pub run-keeps : (exit : Exit) (came left : DeviceView) (bench after : BenchView) (journal : JournalView) (script rest before printed : Option (List ℕ)) → ((bytes : List ℕ) → came.held ≡ Some bytes → length bytes ≡ came.extent) → is_flash_size came.extent ≡ true → Opens came bench → HandsBack after left journal →
+    Drives exit (wire_view Lpc bench) (wire_view Lpc after) script rest before printed → KeepsRo journal.entries came.held left.held
+run-keeps exit came left bench after journal script rest before printed whole allowed opened hands drives =
+    keeps-run journal.entries came.held left.held (told-allowed came.held came.extent whole allowed)
+    (run-runs exit came left bench after journal script rest before printed opened hands drives)

@@ -13,6 +13,8 @@ use Rattle.ec_model.specs.WholeStep.{stepped}
 use Rattle.ec_model.specs.declared.event.Event.{Event}
 use Rattle.ec_model.specs.Table.{Table}
 use Rattle.ec_model.specs.Run.{IsRun, opening}
+use Rattle.ec_model.specs.Stored.{stored}
+use Rattle.ec_model.specs.Guarded.{KeepsPin, guarded_bytes}
 use Rattle.ec_model.specs.declared.event.Entry.{Entry}
 use Rattle.ec_model.specs.declared.event.Entry.TheVariants.{Step}
 use Rattle.ec_model.specs.declared.event.Event.TheVariants.{Power}
@@ -119,3 +121,9 @@ pub record NothingFailed (old new : DeviceView) : Type 0 where
 -- the journal is a run of the controller, from its flash as it came to the flash as it is handed back
 abbrev pub RunsTo : List Entry → Option (List ℕ) → Option (List ℕ) → Type 0
 RunsTo entries = Changes (λ before after. (last : Table) × IsRun (opening before true Lpc) entries last × (last.flash ≡ after))
+
+-- where the flash as it came has the lock of RO at boot stored, and no entry takes the pin away, the guarded bytes are handed
+-- back as they came
+abbrev pub KeepsRo : List Entry → Option (List ℕ) → Option (List ℕ) → Type 0
+KeepsRo entries =
+    Changes (λ before after. IsTrue (stored before).ro → KeepsPin entries → guarded_bytes after ≡ guarded_bytes before)

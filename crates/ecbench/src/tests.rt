@@ -263,7 +263,8 @@ fn a_failing_flash_is_told_by_the_controller(rt: HostRuntime) -> Result<(), Fail
 #[test]
 fn an_erase_that_does_not_end_is_told(rt: HostRuntime) -> Result<(), Fail> {
     // An erase of two blocks, the second of which fails.
-    let script = b"out 0x800 03421300000008000080000000200000\nout 0x204 da\ntick 3\nresend\nresend\nhello";
+    let script =
+        b"out 0x800 03421300000008000080000000200000\nout 0x204 da\ntick 3\nresend\nresend\nhello";
     let flash = MemFlash::new(rt.alloc(), &ERASED, &[3])?;
     let failed = (
         Exit::Done,
@@ -271,7 +272,8 @@ fn an_erase_that_does_not_end_is_told(rt: HostRuntime) -> Result<(), Fail> {
     );
     let _entries = plays(&rt, flash, script, (&[], &[]), failed)?;
     // The same, with the power lost at its first block: the power-on does not go on with it.
-    let script = b"out 0x800 03421300000008000080000000200000\nout 0x204 da\ntick 2\nhello\npower on\nhello\nresend";
+    let script =
+        b"out 0x800 03421300000008000080000000200000\nout 0x204 da\ntick 2\nhello\npower on\nhello\nresend";
     let dying = Dying {
         cuts: 0,
         fetched: 0,

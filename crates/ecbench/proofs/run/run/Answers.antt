@@ -1,6 +1,6 @@
 use Rattle.std.proofs.Common.{◌≡◌, ap, sym, ◌∙◌, refl, true}
 use Rattle.flash_dev.specs.Ranges.{is_flash_size}
-use Rattle.ecbench.proofs.Whole.{runs-none, opens, run-ends, run-runs, run-faults, run-cuts, run-undisturbed}
+use Rattle.ecbench.proofs.Whole.{runs-none, keeps-none, opens, run-ends, run-runs, run-keeps, run-faults, run-cuts, run-undisturbed}
 use Rattle.ecbench.proofs.run.run.Goals as goal
 
 pub returns-in_default-clause-run : goal.returns-in_default-clause-run
@@ -12,6 +12,22 @@ pub returns-then-not-are_words-clause-run : goal.returns-then-not-are_words-clau
 returns-then-not-are_words-clause-run g c =
     let held = (g.F.FlashDev.seen c.args.flash).held in
     rw (c.refused.ensures.flash, c.refused.ensures.journal) (runs-none held)
+
+pub returns-in_default-clause-guard : goal.returns-in_default-clause-guard
+returns-in_default-clause-guard g c =
+    let held = (g.F.FlashDev.seen c.args.flash).held in
+    rw (c.refused-in_default.ensures.flash) (keeps-none c.refused-in_default.result.journal.entries held)
+
+pub returns-then-not-are_words-clause-guard : goal.returns-then-not-are_words-clause-guard
+returns-then-not-are_words-clause-guard g c =
+    let held = (g.F.FlashDev.seen c.args.flash).held in
+    rw (c.refused.ensures.flash) (keeps-none c.refused.result.journal.entries held)
+
+pub returns-clause-guard : goal.returns-clause-guard
+returns-clause-guard g c =
+    let allowed : is_flash_size (g.F.FlashDev.seen c.args.flash).extent ≡ true = ap is_flash_size (sym c.size.ensures) ∙ c.in-Some.ensures.allowed.0 refl in
+    run-keeps _ _ _ c.new-bench.result c.drive-exit.new.bench _ _ _ _ _ (g.met.F.FlashDev.told_whole c.args.flash) allowed (opens _ _ _ c.new-bench.ensures c.new-2.ensures.table c.new-2.ensures.device)
+    (record { flash = c.finish-flash.ensures.flash; journal = c.finish-flash.ensures.journal; table = c.finish-flash.ensures.table }) c.drive-exit.ensures.drives
 
 pub returns-clause-ends : goal.returns-clause-ends
 returns-clause-ends g c =
