@@ -1,12 +1,12 @@
 // What an event has the controller do.
-ghost use Rattle.std.specs.Prelude.{◌≡◌, IsNone};
+ghost use Rattle.std.specs.Prelude.{◌≡◌, IsNone, IsTrue};
 ghost use Rattle.ec_model.specs.Bus.{due_now};
-ghost use Rattle.ec_model.specs.Work.{cause_of, lost_answer};
-ghost use Rattle.ec_boot.specs.States.{RunView};
+ghost use Rattle.ec_model.specs.Work.{cause_of, lost_answer, idle_work, Rest};
 ghost use Rattle.ec_core.specs.Held.{IsKept};
 ghost use Rattle.ec_core.specs.Task.{IsTaken, IsTakenUp, IsTakenDown};
 
 use crate::held::Held;
+use ec_boot::{InRo, Running};
 use ec_model::{Event, WorldReset};
 use ec_types::ResetCause;
 use ec_wire::{Bus, Due};
@@ -50,10 +50,17 @@ pub fn answer_without_power(event: Event) -> u8
     }
 }
 
-// What an event has a controller do that is on.
-fn take_up<B: Bus>(bus: &mut B, event: Event) -> Taken
+// Whether a tick that serves no request has nothing to do, since no erase is pending. No command starts a hash.
+fn rests<F: FlashDev>(on: &InRo<F>) -> bool
+    ensures { IsTrue result → idle_work on.now.live.erase on.now.live.hash ≡ Rest }
+{
+    on.live().erase.is_none()
+}
+
+// What an event has a controller do that is on. A tick that has nothing to do leaves it where it is.
+fn take_up<B: Bus, F: FlashDev>(on: &InRo<F>, bus: &mut B, event: Event) -> Taken
     requires { IsNone (due_now (B.state bus.old)) }
-    ensures { (run : RunView) → IsTakenUp event (B.state bus.old) result.task (B.state bus.new) result.answer run }
+    ensures { IsTakenUp event (B.state bus.old) result.task (B.state bus.new) result.answer on.now }
 {
     match event {
         Event::Access { a } => {
@@ -72,7 +79,7 @@ fn take_up<B: Bus>(bus: &mut B, event: Event) -> Taken
                 answer: 0,
             },
             _ => Taken {
-                task: Some(Task::Tick),
+                task: if rests(on) { None } else { Some(Task::Tick) },
                 answer: 0,
             },
         },
@@ -123,7 +130,7 @@ pub fn take<B: Bus, F: FlashDev>(held: &Option<Held<F>>, bus: &mut B, event: Eve
     ensures { IsTaken event (B.state bus.old) result.task (B.state bus.new) result.answer held.now }
 {
     match held {
-        Some(Held::Up(_)) => take_up(bus, event),
+        Some(Held::Up(on)) => take_up(on, bus, event),
         Some(Held::Down { off: _, pin: _ }) => take_down(event),
         None => unreachable!(),
     }
