@@ -53,7 +53,7 @@ body_of version AsksResend = []
 
 -- what a body says to the command of a line: nothing exactly where it is no spelling
 abbrev pub IsAskOf : Option CommandLine → ℕ → List ℕ → Option Ask → Type 0
-IsAskOf None version body result = Unit {0}
+IsAskOf None version body result = result ≡ None
 IsAskOf (Some found) version body None = IsFalse (is_spelled found.command version body)
 IsAskOf (Some found) version body (Some ask) = IsTrue (is_spelled found.command version body) × (command_of ask ≡ found.command) × (body ≡ body_of version ask)
 

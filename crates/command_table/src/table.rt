@@ -43,9 +43,9 @@ fn answer_ro<F: FlashDev>(
 }
 
 /// Answers a request that came on a bus. `reply` becomes the reply; where the controller lost its power it is not to be
-/// sent. A command that is unknown answers 1, a version that is not offered 6, any command while an erase is pending 16,
-/// a body that is no spelling 3, and else the command's row answers. Guarded RO stays guarded, and keeps its bytes, whatever
-/// fails or is torn inside.
+/// sent. A command that is unknown answers 1, a version that is not offered 6, any but
+/// GET_COMMS_STATUS and RESEND_RESPONSE while an erase is pending 16, a body that is no spelling 3, and else the command's row
+/// answers. Guarded RO stays guarded, and keeps its bytes, whatever fails or is torn inside.
 pub fn answer<F: FlashDev>(
     state: Awake<F>,
     request: &Request,

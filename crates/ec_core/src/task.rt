@@ -1,5 +1,5 @@
 // What an event has the controller do.
-ghost use Rattle.std.specs.Prelude.{◌≡◌, IsNone, IsTrue};
+ghost use Rattle.std.specs.Prelude.{◌≡◌, IsNone, IsTrue, is_none};
 ghost use Rattle.ec_model.specs.Bus.{due_now};
 ghost use Rattle.ec_model.specs.Work.{cause_of, lost_answer, idle_work, Rest};
 ghost use Rattle.ec_core.specs.Held.{IsKept};
@@ -52,7 +52,8 @@ pub fn answer_without_power(event: Event) -> u8
 
 // Whether a tick that serves no request has nothing to do, since no erase is pending. No command starts a hash.
 fn rests<F: FlashDev>(on: &InRo<F>) -> bool
-    ensures { IsTrue result → idle_work on.now.live.erase on.now.live.hash ≡ Rest }
+    ensures exact { result ≡ is_none on.now.live.erase }
+    ensures rest { IsTrue result → idle_work on.now.live.erase on.now.live.hash ≡ Rest }
 {
     on.live().erase.is_none()
 }

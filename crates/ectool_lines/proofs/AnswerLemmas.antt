@@ -21,6 +21,8 @@ use Rattle.host_runs.specs.Exchange.{first_statuses, lpc_exchange, IsExchange}
 use Rattle.host_runs.specs.Served.{IsPlain, IsAnswer}
 use Rattle.host_runs.proofs.CalmRun.{calm_lead}
 use Rattle.host_runs.proofs.LpcSend.{bus-facts, settled-valid, lpc-calm}
+use Rattle.host_runs.specs.Calm.{CallsLead}
+use Rattle.host_runs.proofs.CalmRun.{calm_lead}
 use Rattle.host_runs.proofs.LpcExchange.{exchange-run}
 use Rattle.host_runs.proofs.Plain.{plain-answered}
 use Rattle.host_runs.proofs.Response.{eq-true}
@@ -118,6 +120,7 @@ answered-by table last first awake asked entries ending after (Answered new stat
         handled_is = same;
         entries_are = exchange.entries;
         ending_is = sent.ending_is ∙ heard;
+        leads = subst (λ (calls : List HostCall). CallsLead table calls last) left.calls_are (calm_lead table entries last calm run);
         new_is = left.leaves;
       });
       ready = record {
