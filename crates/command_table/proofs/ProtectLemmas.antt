@@ -10,7 +10,7 @@ use Rattle.ec_model.specs.declared.event.Hurt.{Hurt}
 use Rattle.ec_model.specs.declared.event.Hurt.TheVariants.{Whole, Failed}
 use Rattle.ec_model.specs.declared.live.ProtectView.{ProtectView}
 use Rattle.ec_model.specs.Table.{Core}
-use Rattle.ec_model.specs.Bodies.{flash_protect_ask}
+use Rattle.ec_model.specs.Bodies.{flash_protect_ask, flash_protect_say}
 use Rattle.ec_model.specs.Commands.{FlashProtect}
 use Rattle.ec_model.specs.Handle.{Admitted, admitted, row_operations, operations_by}
 use Rattle.ec_model.specs.Packet.{RequestView}
@@ -18,7 +18,7 @@ use Rattle.ec_params.specs.declared.protection.FlashProtectAsk.{FlashProtectAsk}
 use Rattle.command_table.specs.declared.asks.Ask.{Ask}
 use Rattle.command_table.specs.declared.asks.Ask.TheVariants.{FlashProtect as AsksProtect}
 use Rattle.command_table.specs.Asks.{command_of, body_of, IsPassed}
-use Rattle.ec_model.specs.ProtectRow.{flash_protect_row, protect_operations, protect_bytes, protect_view, protected}
+use Rattle.ec_model.specs.ProtectRow.{flash_protect_row, protect_operations, protect_view, protected}
 use Rattle.ec_model.specs.Answer.{Answered}
 use Rattle.ec_boot.specs.States.{RunView, core_at, told_core}
 use Rattle.ec_boot.specs.Ran.{IsStopped, IsProtected, WearsAtMost}
@@ -27,6 +27,10 @@ use Rattle.command_table.specs.Leaves.{Leaves, FoundLeaves, end_status}
 use Rattle.ec_boot.proofs.ProtectLemmas.{core_or}
 use Rattle.command_table.proofs.ToldLemmas.{changes-map}
 use Rattle.command_table.proofs.RowLemmas.{whole-leaves}
+
+-- the bytes that show a protection
+abbrev pub protect_bytes : ProtectView → List ℕ
+protect_bytes view = flash_protect_say view.flags view.valid view.writable
 
 -- the fields of the request are read back
 mask-is : (mask flags : ℕ) → mask < 2 ^ 32 → u32_at 0 (flash_protect_ask mask flags) ≡ mask

@@ -8,11 +8,11 @@ use Rattle.flash_ctl.specs.Locks.{CtlView}
 use Rattle.ec_model.specs.declared.live.HashView.TheVariants.{Idle}
 use Rattle.ec_model.specs.declared.live.Live.{Live}
 use Rattle.ec_model.specs.declared.live.ProtectView.{ProtectView}
-use Rattle.ec_model.specs.Stored.{stored}
+use Rattle.ec_model.specs.Stored.{stored, same_bits, ro_now_flag, all_now_flag}
 use Rattle.ec_model.specs.Table.{Core}
 use Rattle.ec_model.specs.Hash.{is_hash_over, without_hash}
 use Rattle.ec_model.specs.Operations.{Operation, operation_range, operated_all, touched_by}
-use Rattle.ec_model.specs.ProtectRow.{protect_operations, protect_view, protected, locked_live, locks_set, same_bits, wanted, storing_operations}
+use Rattle.ec_model.specs.ProtectRow.{protect_operations, protect_view, protected, locks_set, is_asked, wanted, storing_operations}
 use Rattle.flash_protect.specs.declared.protect.Protect.{Protect}
 use Rattle.flash_protect.specs.Spent.{RisesAtMost}
 use Rattle.flash_protect.specs.Setting.{Sets, IsStoppedIn, core_with, covering}
@@ -42,6 +42,14 @@ made pin live flash ro all = record { flash = flash; pin = pin; live = record li
 made-same : (pin : Bool) (live : Live) (f g : List ℕ) (ro ro2 all all2 : Bool) → f ≡ g → ro ≡ ro2 → all ≡ all2 → made pin live f ro all ≡ made pin live g ro2 all2
 made-same pin live f g ro ro2 all all2 flash first second =
     ap (λ (x : List ℕ). made pin live x ro all) flash ∙ ap (λ (x : Bool). made pin live g x all) first ∙ ap (λ (x : Bool). made pin live g ro2 x) second
+
+-- a live state with the locks that are asked for
+abbrev locked_live : ℕ → ℕ → Live → Live
+locked_live mask flags live =
+    record live {
+      ro_now = live.ro_now || is_asked ro_now_flag mask flags || is_asked all_now_flag mask flags;
+      all_now = live.all_now || is_asked all_now_flag mask flags;
+    }
 
 -- locks that are set on the protection alone are set on the whole
 locks-lift : (can : Bool) (mask flags : ℕ) (pin : Bool) (live : Live) (f g : List ℕ) (new : Protect) →

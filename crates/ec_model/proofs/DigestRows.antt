@@ -12,11 +12,11 @@ use Rattle.ec_model.specs.Packet.{framing}
 use Rattle.ec_model.specs.Commands.{Command, known, is_spelled, is_write_spelled, Proto, Hello, Version, Chip, CmdVersions, Comms, Test, ProtoInfo, FlashInfo, FlashRead, FlashWrite, FlashErase, FlashProtect, RegionInfo, Sysinfo, VbootHash, Reboot, Resend}
 use Rattle.ec_model.specs.Table.{Core}
 use Rattle.ec_model.specs.Hash.{IsKeptDigest}
-use Rattle.ec_model.specs.Operations.{Program}
+use Rattle.ec_model.specs.Operations.{Program, after_operations}
 use Rattle.ec_model.specs.Answer.{Outcome, Answered, Restarts, done}
 use Rattle.ec_model.specs.InfoRows.{mask_told, range_told, test_row}
 use Rattle.ec_model.specs.FlashRows.{unless_refused, read_refusal, write_refusal, written, flash_write_row, erase_refusal, flash_erase_row}
-use Rattle.ec_model.specs.ProtectRow.{protect_operations, bits_stored, locked_live, locks_set, can_lock, protected}
+use Rattle.ec_model.specs.ProtectRow.{protect_operations, locks_set, can_lock, protected}
 use Rattle.ec_model.specs.HashRow.{vboot_hash_row, hash_start_row, hash_asked, hash_range}
 use Rattle.ec_model.specs.Jump.{same_copy, is_denied, has_vector, kept_hash}
 use Rattle.ec_model.specs.RebootRow.{jump_row, reboot_row}
@@ -71,11 +71,11 @@ erase-digests core body = unless-digests core (erase_refusal core body) _ (λ no
 -- locks that are set leave the hash and the flash
 locks-digests : (mask flags : ℕ) (core stored_core : Core) → KeepsDigests core stored_core → KeepsDigests core (locks_set mask flags stored_core)
 locks-digests mask flags core stored_core keeps =
-    if_cases (KeepsDigests core) (can_lock stored_core) (record stored_core { live = locked_live mask flags stored_core.live }) stored_core (λ can. keeps) (λ cannot. keeps)
+    if_cases (KeepsDigests core) (can_lock stored_core) _ stored_core (λ can. keeps) (λ cannot. keeps)
 
 protect-digests : (core : Core) (mask flags : ℕ) → IsCoreValid core → KeepsDigests core (protected mask flags core)
 protect-digests core mask flags valid =
-    locks-digests mask flags core (bits_stored mask flags core) (λ at size digest shown.
+    locks-digests mask flags core (after_operations (protect_operations core mask flags) core) (λ at size digest shown.
     touched_by-kept (protect_operations core mask flags) core core.flash (length core.flash) at size digest refl (protect-inside core mask flags valid) shown)
 
 asked-digests : (core : Core) (range : Option Range) (nonce : List ℕ) → KeepsDigestsOutcome core (hash_asked range nonce core)

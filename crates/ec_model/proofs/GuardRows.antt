@@ -10,11 +10,11 @@ use Rattle.ec_model.specs.Ranges.{Range, region_range}
 use Rattle.ec_model.specs.Commands.{Command, known, is_spelled, is_write_spelled, Proto, Hello, Version, Chip, CmdVersions, Comms, Test, ProtoInfo, FlashInfo, FlashRead, FlashWrite, FlashErase, FlashProtect, RegionInfo, Sysinfo, VbootHash, Reboot, Resend}
 use Rattle.ec_model.specs.Table.{Core}
 use Rattle.ec_model.specs.Hash.{touched, is_hash_over, without_hash}
-use Rattle.ec_model.specs.Operations.{Operation, Program, operation_range, touched_by}
+use Rattle.ec_model.specs.Operations.{Operation, Program, operation_range, touched_by, after_operations}
 use Rattle.ec_model.specs.Answer.{Outcome, Answered, Restarts, done}
 use Rattle.ec_model.specs.InfoRows.{mask_told, range_told, test_row}
 use Rattle.ec_model.specs.FlashRows.{unless_refused, asked_range, read_refusal, write_refusal, written, flash_write_row, erase_refusal, flash_erase_row}
-use Rattle.ec_model.specs.ProtectRow.{protect_operations, bits_stored, locked_live, locks_set, can_lock, protected}
+use Rattle.ec_model.specs.ProtectRow.{protect_operations, locks_set, can_lock, protected}
 use Rattle.ec_model.specs.HashRow.{vboot_hash_row, hash_start_row, hash_asked, hash_range}
 use Rattle.ec_model.specs.Jump.{same_copy, is_denied, has_vector}
 use Rattle.ec_model.specs.RebootRow.{jump_row, reboot_row}
@@ -98,14 +98,14 @@ write-keeps core version body spelled =
 -- the lock stays where more is locked
 locks-keep : (mask flags : ℕ) (core : Core) → Keeps core (locks_set mask flags core)
 locks-keep mask flags core =
-    if_cases (Keeps core) (can_lock core) (record core { live = locked_live mask flags core.live }) core
+    if_cases (Keeps core) (can_lock core) _ core
     (λ can. record { pin = refl; locked = λ locked. rw locked refl; flash = λ locked. leaves-refl (length core.flash / 2) core.flash })
     (λ cannot. keeps-self core)
 
 pub protect-keeps : (core : Core) (mask flags : ℕ) → Keeps core (protected mask flags core)
 protect-keeps core mask flags =
     let operations = protect_operations core mask flags in
-    let stored_core = bits_stored mask flags core in
+    let stored_core = after_operations operations core in
     let same = same-touched_by operations core in
     let locks = locks-keep mask flags stored_core in
     record {

@@ -15,12 +15,12 @@ use Rattle.ec_model.specs.Ranges.{Range, is_flash_size, region_range, ro_range, 
 use Rattle.ec_model.specs.Commands.{Command, known, is_spelled, is_write_spelled, Proto, Hello, Version, Chip, CmdVersions, Comms, Test, ProtoInfo, FlashInfo, FlashRead, FlashWrite, FlashErase, FlashProtect, RegionInfo, Sysinfo, VbootHash, Reboot, Resend}
 use Rattle.ec_model.specs.Table.{Core, IsErasable, IsHashable, is_blocked, ticks_of}
 use Rattle.ec_model.specs.Hash.{touched, is_hash_over, without_hash, with_hash}
-use Rattle.ec_model.specs.Operations.{Operation, Program, operation_range, operated_all, touched_by}
+use Rattle.ec_model.specs.Operations.{Operation, Program, operation_range, operated_all, touched_by, after_operations}
 use Rattle.ec_model.specs.Answer.{Outcome, Answered, Restarts, done}
 use Rattle.ec_model.specs.InfoRows.{mask_told, range_told, test_row}
 use Rattle.ec_model.specs.FlashRows.{unless_refused, asked_range, read_refusal, write_refusal, written, flash_write_row, erase_refusal, flash_erase_row, is_whole_units}
-use Rattle.ec_model.specs.ProtectRow.{protect_operations, storing_operations, same_bits, wanted, bits_stored, locked_live, locks_set, can_lock, protected, is_asked}
-use Rattle.ec_model.specs.Stored.{stored, ro_now_flag, all_now_flag}
+use Rattle.ec_model.specs.ProtectRow.{protect_operations, storing_operations, wanted, locks_set, can_lock, protected, is_asked}
+use Rattle.ec_model.specs.Stored.{stored, same_bits, ro_now_flag, all_now_flag}
 use Rattle.ec_model.specs.HashRow.{vboot_hash_row, hash_start_row, hash_asked, hash_range, first_of_region}
 use Rattle.ec_model.specs.Jump.{same_copy, is_denied, has_vector, jumped, kept_hash}
 use Rattle.ec_model.specs.RebootRow.{jump_row, reboot_row}
@@ -159,12 +159,12 @@ locks_in_order false false false second order now = now
 
 locks-valid : (mask flags : ℕ) (core : Core) → IsCoreValid core → core.live.erase ≡ None → IsCoreValid (locks_set mask flags core)
 locks-valid mask flags core valid free =
-    if_cases IsCoreValid (can_lock core) (record core { live = locked_live mask flags core.live }) core
+    if_cases IsCoreValid (can_lock core) _ core
     (λ can. record {
       size = valid.size;
       all_with_ro = locks_in_order core.live.ro_now core.live.all_now (is_asked ro_now_flag mask flags) (is_asked all_now_flag mask flags) valid.all_with_ro;
       jumped = valid.jumped;
-      erase = subst (λ (job : Option EraseJob). IsErasable (length core.flash) (locked_live mask flags core.live) job) (sym free) tt;
+      erase = subst (λ (job : Option EraseJob). IsErasable (length core.flash) (record core.live { ro_now = core.live.ro_now || is_asked ro_now_flag mask flags || is_asked all_now_flag mask flags; all_now = core.live.all_now || is_asked all_now_flag mask flags }) job) (sym free) tt;
       hash = valid.hash;
       saved = valid.saved;
     })
@@ -185,7 +185,7 @@ protect-valid core mask flags valid free =
     let leaves = leaves-operated_all 0 (length core.flash) operations core.flash refl (protect-inside core mask flags valid) in
     let touched_core = touched_by operations core in
     let stored_valid = with-flash-valid touched_core (operated_all operations core.flash) (leaves.size ∙ sym (ap length (same-flash_by operations core))) (touched_by-valid operations core valid) in
-    locks-valid mask flags (bits_stored mask flags core) stored_valid (same-erase_by operations core ∙ free)
+    locks-valid mask flags (after_operations operations core) stored_valid (same-erase_by operations core ∙ free)
 
 jump-valid : (core : Core) (target : ImageCopy) → IsCoreValid core → core.live.erase ≡ None → ValidOutcome (jump_row target core)
 jump-valid core target valid free =

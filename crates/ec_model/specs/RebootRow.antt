@@ -1,5 +1,5 @@
 -- The command that jumps and resets.
-use Rattle.std.specs.Prelude.{ℕ, Bool, true, false, not, ◌==◌, if◌then◌else◌, List, slice_index, Option, Some, None}
+use Rattle.std.specs.Prelude.{ℕ, Bool, true, not, ◌&&◌, ◌||◌, ◌==◌, if◌then◌else◌, List, slice_index}
 use Rattle.ec_types.specs.declared.image.ImageCopy.{ImageCopy}
 use Rattle.ec_types.specs.declared.image.ImageCopy.TheVariants.{Ro, Rw}
 use Rattle.ec_model.specs.Table.{Core}
@@ -25,15 +25,8 @@ reboot_row core body =
     if slice_index body 0 == 5 then done (record core { live = record core.live { jump_off = true } }) else
     refused core 3
 
--- the image that a body asks a jump to, if it does
-abbrev pub jump_target : List ℕ → Option ImageCopy
-jump_target body =
-    if not (slice_index body 1 == 0) then None else
-    if slice_index body 0 == 1 then Some Ro else
-    if slice_index body 0 == 2 then Some Rw else
-    None
-
--- whether a jump to that image looks at its head
-abbrev pub reads_target : Option ImageCopy → Core → Bool
-reads_target None core = false
-reads_target (Some target) core = reads_head target core
+-- whether a REBOOT_EC looks at an image's head
+abbrev pub reboot_reads : Core → List ℕ → Bool
+reboot_reads core body =
+    (slice_index body 1 == 0)
+    && (((slice_index body 0 == 1) && reads_head Ro core) || ((slice_index body 0 == 2) && reads_head Rw core))

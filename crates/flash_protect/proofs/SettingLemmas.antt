@@ -10,9 +10,9 @@ use Rattle.flash_dev.specs.Ranges.{is_flash_size}
 use Rattle.flash_dev.specs.declared.device.DevErr.{DevErr}
 use Rattle.ec_model.specs.declared.live.AtBoot.{AtBoot}
 use Rattle.ec_model.specs.declared.live.ProtectView.{ProtectView}
-use Rattle.ec_model.specs.Stored.{stored, stored_in, spelled_bits}
+use Rattle.ec_model.specs.Stored.{stored, stored_in, same_bits, spelled_bits}
 use Rattle.ec_model.specs.Operations.{Operation, StopsAt, operated_all, touched_by}
-use Rattle.ec_model.specs.ProtectRow.{storing_operations, protect_operations, same_bits, wanted, locks_set, protect_view}
+use Rattle.ec_model.specs.ProtectRow.{storing_operations, protect_operations, wanted, locks_set, protect_view}
 use Rattle.ec_model.proofs.GuardLemmas.{AllAbove, leaves-operated_all}
 use Rattle.flash_protect.specs.declared.protect.Protect.{Protect}
 use Rattle.flash_protect.specs.Setting.{Sets, IsSet, IsStoppedIn, core_with, covering}

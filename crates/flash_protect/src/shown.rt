@@ -1,8 +1,8 @@
 // What is shown of the protection.
-ghost use Rattle.std.specs.Prelude.{◌≡◌, ◌≤◌, List, ℕ};
+ghost use Rattle.std.specs.Prelude.{◌≡◌, ◌≤◌, List, ℕ, if◌then◌else◌};
 ghost use Rattle.ec_types.specs.LittleEndian.{bit_if, has_bit};
-ghost use Rattle.ec_model.specs.Stored.{stored};
-ghost use Rattle.ec_model.specs.ProtectRow.{wished, wanted, same_bits, is_asked, protect_view};
+ghost use Rattle.ec_model.specs.Stored.{stored, same_bits};
+ghost use Rattle.ec_model.specs.ProtectRow.{wanted, is_asked, protect_view};
 ghost use Rattle.flash_protect.specs.Setting.{core_with};
 
 use crate::Protect;
@@ -18,7 +18,7 @@ fn bit(mask: u32, test: bool) -> u32
 
 // A bit of the flags where the mask has it, and else as it was.
 fn wished(bit: u32, mask: u32, flags: u32, old: bool) -> bool
-    ensures { result ≡ wished bit mask flags old }
+    ensures { result ≡ (if has_bit bit mask then has_bit bit flags else old) }
 {
     if mask & bit != 0 {
         flags & bit != 0

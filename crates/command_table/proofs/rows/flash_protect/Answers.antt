@@ -1,7 +1,6 @@
 use Rattle.std.proofs.Common.{◌∙◌, ◌++◌, ap, rules, ℕ, List}
-use Rattle.ec_model.specs.ProtectRow.{protect_bytes}
 use Rattle.ec_boot.specs.States.{told_core}
-use Rattle.command_table.proofs.ProtectLemmas.{shown-told, stopped-told, protect-wears}
+use Rattle.command_table.proofs.ProtectLemmas.{protect_bytes, shown-told, stopped-told, protect-wears}
 use Rattle.command_table.proofs.rows.flash_protect.Goals as goal
 
 pub returns-in-Ok-clause-leaves : goal.returns-in-Ok-clause-leaves
