@@ -9,8 +9,9 @@ use Rattle.ec_model.specs.declared.live.EraseJob.{EraseJob}
 use Rattle.ec_model.specs.Ranges.{Range}
 use Rattle.ec_model.specs.Table.{Core}
 use Rattle.ec_model.specs.Bodies.{flash_erase_ask}
-use Rattle.ec_model.specs.Answer.{Outcome, Answered}
-use Rattle.ec_model.specs.FlashRows.{asked_range, asked_job, unless_refused, erase_refusal, flash_erase_row}
+use Rattle.ec_model.specs.Answer.{Outcome, Answered, unless_refused}
+use Rattle.ec_model.specs.Erasing.{asked_job}
+use Rattle.ec_model.specs.FlashRows.{asked_range, erase_refusal, flash_erase_row}
 use Rattle.ec_boot.specs.States.{RunView, core_at, told_core}
 use Rattle.command_table.specs.Leaves.{Leaves}
 use Rattle.command_table.proofs.RowLemmas.{read-range, whole-leaves}

@@ -13,7 +13,7 @@ use Rattle.ec_model.specs.declared.live.HashView.TheVariants.{Idle}
 use Rattle.ec_model.specs.Ranges.{is_flash_size, overlaps, copy_range, wp_ro_range, blocks_range, block_range}
 use Rattle.ec_model.specs.Table.{Core, IsErasable}
 use Rattle.ec_model.specs.Operations.{Erase}
-use Rattle.ec_model.specs.WholeStep.{with_job}
+use Rattle.ec_model.specs.Erasing.{with_job}
 use Rattle.ec_boot.specs.States.{RunView, core_at, told_core, IsRunning}
 use Rattle.ec_boot.specs.Ticked.{IsTicked, IsBlockErased}
 use Rattle.ec_boot.specs.Guarding.{KeepsGuard}

@@ -6,7 +6,7 @@ use Rattle.ec_model.specs.Ranges.{block_range}
 use Rattle.ec_model.specs.Table.{Core}
 use Rattle.ec_model.specs.Hash.{touched}
 use Rattle.ec_model.specs.Operations.{Operation, Erase, StopsAt}
-use Rattle.ec_model.specs.WholeStep.{block_erased, job_left, saved_after, with_job}
+use Rattle.ec_model.specs.Erasing.{block_erased, job_left, saved_after, with_job}
 use Rattle.ec_model.specs.Step.{failed_core}
 use Rattle.ec_boot.specs.States.{RunView, core_at}
 

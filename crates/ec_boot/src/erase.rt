@@ -1,6 +1,6 @@
 // What a block that is done leaves of an erase.
 ghost use Rattle.std.specs.Prelude.{◌≡◌, ◌+◌, ◌<◌, ◌^◌};
-ghost use Rattle.ec_model.specs.WholeStep.{job_left, saved_after};
+ghost use Rattle.ec_model.specs.Erasing.{job_left, saved_after};
 
 use ec_model::EraseJob;
 

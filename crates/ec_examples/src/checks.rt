@@ -4,7 +4,7 @@ ghost use Rattle.ec_model.specs.Commands.{line, CmdVersions, FlashErase, Comms, 
 ghost use Rattle.ec_model.specs.Packet.{request_packet};
 ghost use Rattle.ec_model.specs.Bodies.{hello_ask, cmd_versions_ask0, cmd_versions_ask1, region_info_ask};
 ghost use Rattle.ec_model.specs.Handle.{asked, admitted_by};
-ghost use Rattle.ec_model.specs.WholeStep.{with_job};
+ghost use Rattle.ec_model.specs.Erasing.{with_job};
 ghost use Rattle.ec_examples.specs.Flashes.{e64};
 ghost use Rattle.ec_examples.specs.Cores.{on};
 

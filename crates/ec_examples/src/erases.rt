@@ -8,7 +8,7 @@ ghost use Rattle.ec_model.specs.Commands.{Resend};
 ghost use Rattle.ec_model.specs.Bus.{fresh_bus};
 ghost use Rattle.ec_model.specs.Table.{table_of};
 ghost use Rattle.ec_model.specs.Hash.{without_hash};
-ghost use Rattle.ec_model.specs.WholeStep.{with_job};
+ghost use Rattle.ec_model.specs.Erasing.{with_job};
 ghost use Rattle.ec_examples.specs.Flashes.{e64};
 ghost use Rattle.ec_examples.specs.Cores.{on};
 ghost use Rattle.ec_examples.specs.Events.{table_after};

@@ -16,7 +16,7 @@ ghost use Rattle.ec_model.specs.Operations.{Program, StopsAt};
 ghost use Rattle.ec_model.specs.ProtectRow.{protect_operations};
 ghost use Rattle.ec_model.specs.Stored.{stored};
 ghost use Rattle.ec_model.specs.Work.{operations_of};
-ghost use Rattle.ec_model.specs.WholeStep.{with_job};
+ghost use Rattle.ec_model.specs.Erasing.{with_job};
 ghost use Rattle.ec_model.specs.Step.{IsStep};
 ghost use Rattle.ec_examples.specs.Flashes.{e64};
 ghost use Rattle.ec_examples.specs.Cores.{on};

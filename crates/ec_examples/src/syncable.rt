@@ -9,7 +9,7 @@ ghost use Rattle.ec_model.specs.Bus.{fresh_bus};
 ghost use Rattle.ec_model.specs.Table.{table_of, off_table};
 ghost use Rattle.ec_model.specs.Boot.{booted_table};
 ghost use Rattle.ec_model.specs.Image.{fit_of};
-ghost use Rattle.ec_model.specs.WholeStep.{with_job};
+ghost use Rattle.ec_model.specs.Erasing.{with_job};
 ghost use Rattle.ec_model.specs.Syncable.{settled, Syncable};
 ghost use Rattle.ec_examples.specs.Flashes.{e64, a64, image_v2, with_image};
 ghost use Rattle.ec_examples.specs.Cores.{on};

@@ -11,8 +11,8 @@ use Rattle.ec_model.specs.Commands.{Command, FlashWrite, FlashProtect}
 use Rattle.ec_model.specs.Bus.{BusAnswer, kind_of}
 use Rattle.ec_model.specs.Table.{Table, Power, Off, On, Core, Valid, IsPowerValid, core_of}
 use Rattle.ec_model.specs.Operations.{Operation, StopsAt}
-use Rattle.ec_model.specs.Answer.{Outcome, Answered, Restarts}
-use Rattle.ec_model.specs.FlashRows.{unless_refused, write_refusal}
+use Rattle.ec_model.specs.Answer.{Outcome, Answered, Restarts, unless_refused}
+use Rattle.ec_model.specs.FlashRows.{write_refusal}
 use Rattle.ec_model.specs.Handle.{Admitted, row, row_of, row_operations, operations_by, asked, handled}
 use Rattle.ec_model.specs.Work.{is_power_on, After, Work, Serve, EraseNext, Boot, work_on, work_operations, bus_after, lost_answer}
 use Rattle.ec_model.specs.WholeStep.{after_outcome}

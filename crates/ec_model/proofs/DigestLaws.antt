@@ -19,7 +19,8 @@ use Rattle.ec_model.specs.Operations.{Operation, Erase, StopsAt}
 use Rattle.ec_model.specs.Answer.{Outcome, Answered, Restarts}
 use Rattle.ec_model.specs.Handle.{handled}
 use Rattle.ec_model.specs.Work.{After, Work, Rest, Serve, EraseNext, HashNext, Boot, Stop, SetPin, work_on, work_operations, bus_after, lost_answer}
-use Rattle.ec_model.specs.WholeStep.{block_erased, worked, after_outcome}
+use Rattle.ec_model.specs.Erasing.{block_erased}
+use Rattle.ec_model.specs.WholeStep.{worked, after_outcome}
 use Rattle.ec_model.specs.Step.{IsStep, after_unread, unread, unfinished, failed_core, WorkLeaves, OffLeaves, EventLeavesBy}
 use Rattle.ec_model.proofs.GuardLemmas.{AllAbove}
 use Rattle.ec_model.proofs.GuardSteps.{if_cases}

@@ -31,7 +31,8 @@ use Rattle.ec_model.specs.Packet.{framing}
 use Rattle.ec_model.specs.Handle.{Admitted, asked, row_of, handled}
 use Rattle.ec_model.specs.Commands.{is_spelled}
 use Rattle.ec_model.specs.Work.{After, serve_or, idle_work, hash_work, Work, Rest, Serve, EraseNext, HashNext, Boot, Stop, SetPin, work_on, work_operations, bus_after, lost_answer}
-use Rattle.ec_model.specs.WholeStep.{worked, after_outcome, block_erased, with_job}
+use Rattle.ec_model.specs.Erasing.{block_erased, with_job}
+use Rattle.ec_model.specs.WholeStep.{worked, after_outcome}
 use Rattle.ec_model.specs.Step.{IsStep, after_unread, unread, unfinished, failed_core, error_replied, WorkLeaves, OffLeaves, EventLeavesBy}
 use Rattle.ec_model.proofs.GuardLemmas.{Leaves, leaves-refl, leaves-operated, leaves-stopped}
 use Rattle.ec_model.proofs.GuardSteps.{if_cases}

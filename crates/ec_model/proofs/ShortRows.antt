@@ -12,9 +12,9 @@ use Rattle.ec_model.specs.declared.live.HashView.TheVariants.{Idle, Busy, Done}
 use Rattle.ec_model.specs.Ranges.{Range, region_range, part, ends_within}
 use Rattle.ec_model.specs.Commands.{Command, known, Proto, Hello, Version, Chip, CmdVersions, Comms, Test, ProtoInfo, FlashInfo, FlashRead, FlashWrite, FlashErase, FlashProtect, RegionInfo, Sysinfo, VbootHash, Reboot, Resend}
 use Rattle.ec_model.specs.Table.{Core, IsHashable}
-use Rattle.ec_model.specs.Answer.{Outcome, Answered, Restarts, told}
+use Rattle.ec_model.specs.Answer.{Outcome, Answered, Restarts, told, unless_refused}
 use Rattle.ec_model.specs.InfoRows.{mask_told, range_told, test_row, version_text, zero_padded, is_shown, raw_version, version_row, copy_number}
-use Rattle.ec_model.specs.FlashRows.{unless_refused, asked_range, read_refusal, flash_read_row, write_refusal, erase_refusal}
+use Rattle.ec_model.specs.FlashRows.{asked_range, read_refusal, flash_read_row, write_refusal, erase_refusal}
 use Rattle.ec_model.specs.HashRow.{vboot_hash_row, hash_start_row, hash_asked, hash_range, hash_bytes}
 use Rattle.ec_model.specs.Jump.{same_copy, is_denied, has_vector}
 use Rattle.ec_model.specs.RebootRow.{jump_row, reboot_row}

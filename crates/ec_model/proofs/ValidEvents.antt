@@ -26,7 +26,8 @@ use Rattle.ec_model.specs.Operations.{Operation, Erase, touched_by}
 use Rattle.ec_model.specs.Answer.{Outcome, Answered, Restarts}
 use Rattle.ec_model.specs.Handle.{asked, handled}
 use Rattle.ec_model.specs.Work.{After, Work, Rest, Serve, EraseNext, HashNext, Boot, Stop, SetPin, serve_or, idle_work, hash_work, work_on, work_operations, bus_after, lost_answer}
-use Rattle.ec_model.specs.WholeStep.{worked, after_outcome, block_erased, with_job, job_left, saved_after}
+use Rattle.ec_model.specs.Erasing.{block_erased, with_job, job_left, saved_after}
+use Rattle.ec_model.specs.WholeStep.{worked, after_outcome}
 use Rattle.ec_model.specs.Step.{IsStep, after_unread, unread, unfinished, failed_core, error_replied, WorkLeaves, OffLeaves, EventLeavesBy}
 use Rattle.ec_model.proofs.GuardLemmas.{AllAbove, leaves-operated, leaves-stopped}
 use Rattle.ec_model.proofs.GuardSteps.{if_cases, or_parts}

@@ -16,9 +16,9 @@ use Rattle.ec_model.specs.Commands.{Command, known, is_spelled, is_write_spelled
 use Rattle.ec_model.specs.Table.{Core, IsErasable, IsHashable, is_blocked, ticks_of}
 use Rattle.ec_model.specs.Hash.{touched, is_hash_over, without_hash, with_hash}
 use Rattle.ec_model.specs.Operations.{Operation, Program, operation_range, operated_all, touched_by, after_operations}
-use Rattle.ec_model.specs.Answer.{Outcome, Answered, Restarts, done}
+use Rattle.ec_model.specs.Answer.{Outcome, Answered, Restarts, done, unless_refused}
 use Rattle.ec_model.specs.InfoRows.{mask_told, range_told, test_row}
-use Rattle.ec_model.specs.FlashRows.{unless_refused, asked_range, read_refusal, write_refusal, written, flash_write_row, erase_refusal, flash_erase_row, is_whole_units}
+use Rattle.ec_model.specs.FlashRows.{asked_range, read_refusal, write_refusal, written, flash_write_row, erase_refusal, flash_erase_row, is_whole_units}
 use Rattle.ec_model.specs.ProtectRow.{protect_operations, storing_operations, wanted, locks_set, can_lock, protected, is_asked}
 use Rattle.ec_model.specs.Stored.{stored, same_bits, ro_now_flag, all_now_flag}
 use Rattle.ec_model.specs.HashRow.{vboot_hash_row, hash_start_row, hash_asked, hash_range, first_of_region}

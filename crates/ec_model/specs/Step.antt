@@ -16,7 +16,8 @@ use Rattle.ec_model.specs.Operations.{Operation, StopsAt, touched_by}
 use Rattle.ec_model.specs.Answer.{Outcome, Answered, Restarts}
 use Rattle.ec_model.specs.Handle.{handled, handled_reads}
 use Rattle.ec_model.specs.Work.{After, Work, Serve, HashNext, Boot, is_power_on, bus_after, work_on, work_off, lost_answer, work_operations}
-use Rattle.ec_model.specs.WholeStep.{with_job, worked, worked_off}
+use Rattle.ec_model.specs.Erasing.{with_job}
+use Rattle.ec_model.specs.WholeStep.{worked, worked_off}
 
 -- the bus with the reply that a flash call failed
 abbrev pub error_replied : BusState → BusState

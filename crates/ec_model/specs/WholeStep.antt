@@ -1,37 +1,17 @@
 -- What an event makes of the table and what it answers, where nothing fails.
-use Rattle.std.specs.Prelude.{ℕ, ◌+◌, ◌-◌, false, nat_le, if◌then◌else◌, Option, Some, None}
+use Rattle.std.specs.Prelude.{ℕ, false}
 use Rattle.ec_types.specs.Tables.{packet_limit}
 use Rattle.ec_types.specs.declared.reset.ResetCause.TheVariants.{Cold}
 use Rattle.ec_model.specs.declared.event.Event.{Event}
-use Rattle.ec_model.specs.declared.live.EraseJob.{EraseJob}
-use Rattle.flash_dev.specs.Flash.{erased}
 use Rattle.ec_model.specs.Packet.{response_packet}
-use Rattle.ec_model.specs.Ranges.{block_range}
 use Rattle.ec_model.specs.Bus.{BusAnswer, replied, kind_of}
 use Rattle.ec_model.specs.Table.{Table, Power, Off, On, Core, core_of, table_of, off_table}
-use Rattle.ec_model.specs.Hash.{touched, hash_ticked}
+use Rattle.ec_model.specs.Hash.{hash_ticked}
+use Rattle.ec_model.specs.Erasing.{block_erased}
 use Rattle.ec_model.specs.Boot.{booted_table}
 use Rattle.ec_model.specs.Answer.{Outcome, Answered, Restarts}
 use Rattle.ec_model.specs.Handle.{handled}
 use Rattle.ec_model.specs.Work.{After, Work, Rest, Serve, EraseNext, HashNext, Boot, Stop, SetPin, bus_after, work_on, work_off, lost_answer}
-
--- the erase that is left once its next block is done
-abbrev pub job_left : EraseJob → Option EraseJob
-job_left job = if nat_le job.left 1 then None else Some (record { next = job.next + 1; left = job.left - 1 })
-
--- what is saved for RESEND_RESPONSE once a block is done: success at the last one
-abbrev pub saved_after : EraseJob → ℕ → ℕ
-saved_after job saved = if nat_le job.left 1 then 0 else saved
-
--- the core, its erase job and saved status changed
-abbrev pub with_job : Option EraseJob → ℕ → Core → Core
-with_job job saved core = record core { live = record core.live { erase = job; saved = saved } }
-
--- the core once the next block of its erase is done
-abbrev pub block_erased : EraseJob → Core → Core
-block_erased job core =
-    with_job (job_left job) (saved_after job core.live.saved)
-    (record (touched (block_range job.next) core) { flash = erased job.next core.flash })
 
 -- the table and the answer once a request has its outcome
 abbrev pub after_outcome : Core → BusAnswer → ℕ → Outcome → After

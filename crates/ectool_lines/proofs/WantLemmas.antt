@@ -10,8 +10,8 @@ use Rattle.ec_model.specs.Ranges.{Range, part, ends_within, region_range}
 use Rattle.ec_model.specs.Commands.{is_write_spelled, known}
 use Rattle.ec_model.specs.InfoRows.{zero_padded, mask_told, range_told, test_row}
 use Rattle.ec_model.specs.Table.{Core, is_blocked}
-use Rattle.ec_model.specs.Answer.{Outcome, Answered, Restarts, done}
-use Rattle.ec_model.specs.FlashRows.{unless_refused, asked_range, flash_read_row, flash_write_row, written, is_whole_units}
+use Rattle.ec_model.specs.Answer.{Outcome, Answered, Restarts, done, unless_refused}
+use Rattle.ec_model.specs.FlashRows.{asked_range, flash_read_row, flash_write_row, written, is_whole_units}
 use Rattle.ec_model.specs.Handle.{Admitted, row_of, admitted_from, handled}
 use Rattle.ec_model.proofs.GuardSteps.{if_cases}
 use Rattle.ec_model.proofs.ValidRows.{IsCoreValid}

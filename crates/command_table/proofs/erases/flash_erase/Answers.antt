@@ -1,6 +1,7 @@
 use Rattle.std.proofs.Common.{◌∙◌, rules}
 use Rattle.std.specs.Prelude.{◌≡◌, IfSome, [], ℕ, List, length, false}
-use Rattle.ec_model.specs.FlashRows.{erase_refusal, asked_job, asked_range}
+use Rattle.ec_model.specs.Erasing.{asked_job}
+use Rattle.ec_model.specs.FlashRows.{erase_refusal, asked_range}
 use Rattle.ec_model.specs.Answer.{Answered}
 use Rattle.ec_model.specs.Bodies.{flash_erase_ask}
 use Rattle.ec_boot.specs.States.{RunView}

@@ -2,7 +2,7 @@ use Rattle.std.proofs.Common.{refl, Some, inl}
 use Rattle.ec_types.specs.declared.bus.BusKind.TheVariants.{Lpc}
 use Rattle.ec_model.specs.Bus.{fresh_bus}
 use Rattle.ec_model.specs.Table.{table_of}
-use Rattle.ec_model.specs.WholeStep.{with_job}
+use Rattle.ec_model.specs.Erasing.{with_job}
 use Rattle.ec_examples.specs.Flashes.{a64, image_v2, with_image}
 use Rattle.ec_examples.specs.Cores.{on}
 use Rattle.ec_examples.proofs.SyncLemmas.{apart, closed}
