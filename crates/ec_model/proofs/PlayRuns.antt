@@ -1,15 +1,27 @@
 -- Calls on a bench are a run of its controller, and lists of calls join and part.
-use Rattle.std.proofs.Common.{◌≡◌, refl, sym, ap, ◌∙◌, subst, List, [], ◌∷◌, ◌++◌, append_assoc}
+use Rattle.std.proofs.Common.{◌≡◌, inl, inr, ℕ, refl, sym, ap, ◌∙◌, subst, List, [], ◌∷◌, ◌++◌, append_assoc}
 use Rattle.ec_model.specs.declared.event.Access.{Access}
 use Rattle.ec_model.specs.declared.event.Event.{Event}
 use Rattle.ec_model.specs.declared.event.WorldEvent.{WorldEvent}
 use Rattle.ec_model.specs.declared.event.Entry.{Entry}
 use Rattle.ec_model.specs.declared.event.Entry.TheVariants.{Step, Mark}
-use Rattle.ec_model.specs.Step.{IsStep}
+use Rattle.ec_model.specs.declared.event.Hurt.{Hurt}
+use Rattle.ec_model.specs.declared.event.Hurt.TheVariants.{Whole, Failed, Cut}
+use Rattle.ec_model.specs.Table.{Table, Power, Off, On}
+use Rattle.ec_model.specs.Work.{After}
+use Rattle.ec_model.specs.Step.{IsStep, EventLeavesBy}
 use Rattle.ec_model.specs.Run.{IsRun}
 use Rattle.ec_model.specs.Bench.{Bench, BenchCall, Accesses, Waits, Happens, Marks, Arms, ArmsCut, events_among}
-use Rattle.ec_model.specs.Played.{PlaysEvents, PlaysAccess, PlaysWait, PlaysBehindDue, Played, PlayedAll}
+use Rattle.ec_model.specs.Played.{EventBegins, PlaysEvents, PlaysAccess, PlaysWait, PlaysBehindDue, Played, PlayedAll}
 use Rattle.ec_model.proofs.RunLaws.{run-append}
+
+-- an event that began some operations is a step
+pub begins-step : (hurt : Hurt) (begun : ℕ) (table : Table) (event : Event) (power : Power) (after : After) → EventBegins hurt begun table event power after → EventLeavesBy hurt table event power after
+begins-step hurt begun table event Off after begins = begins.1
+begins-step Whole begun table event (On awake) after begins = begins.1
+begins-step Failed begun table event (On awake) after (inl unread) = inl unread.1
+begins-step Failed begun table event (On awake) after (inr failed) = inr failed.0
+begins-step Cut begun table event (On awake) after begins = begins.0
 
 -- events of the world are a run
 events-run : (old : Bench) (events : List Event) (entries : List Entry) (new : Bench) → PlaysEvents old events entries new → IsRun old.table entries new.table
@@ -18,16 +30,20 @@ events-run old [] (entry ∷ entries) new plays = absurd plays
 events-run old (event ∷ events) [] new plays = absurd plays
 events-run old (event ∷ events) (Mark line ∷ entries) new plays = absurd plays
 events-run old (event ∷ events) (Step did answer meant seen hurt ∷ entries) new plays =
-    let middle = plays.0 in
-    (middle.table, subst (λ (e : Event). IsStep old.table (Step e answer meant seen hurt) middle.table) (sym plays.1) plays.4.step, events-run middle events entries new plays.5)
+    let middle = plays.0 in (
+      middle.table,
+      subst (λ (e : Event). IsStep old.table (Step e answer meant seen hurt) middle.table) (sym plays.1)
+          (begins-step hurt plays.4.begun old.table event old.table.power (record { table = middle.table; answer = answer }) plays.4.step),
+      events-run middle events entries new plays.5,
+    )
 
 -- the own entry of an access is a step, and so is that of a wait
 access-step : (access : Access) (due : List WorldEvent) (old : Bench) (own : Entry) (new : Bench) → PlaysAccess access due old own new → IsStep old.table own new.table
-access-step access due old (Step event answer meant seen hurt) new plays = plays.3.step
+access-step access due old (Step event answer meant seen hurt) new plays = begins-step hurt plays.3.begun old.table event old.table.power (record { table = new.table; answer = answer }) plays.3.step
 access-step access due old (Mark line) new plays = absurd plays
 
 wait-step : (due : List WorldEvent) (old : Bench) (own : Entry) (new : Bench) → PlaysWait due old own new → IsStep old.table own new.table
-wait-step due old (Step event answer meant seen hurt) new plays = plays.3.step
+wait-step due old (Step event answer meant seen hurt) new plays = begins-step hurt plays.3.begun old.table event old.table.power (record { table = new.table; answer = answer }) plays.3.step
 wait-step due old (Mark line) new plays = absurd plays
 
 -- a call that comes behind the due events

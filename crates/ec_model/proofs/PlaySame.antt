@@ -12,12 +12,13 @@ use Rattle.ec_model.specs.declared.event.Hurt.{Hurt}
 use Rattle.ec_model.specs.declared.event.Hurt.TheVariants.{Whole, Failed, Cut}
 use Rattle.ec_model.specs.Table.{Table, Power, Off, On, off_table}
 use Rattle.ec_model.specs.Bus.{kind_of}
-use Rattle.ec_model.specs.Work.{After, operations_of, bus_after}
+use Rattle.ec_model.specs.Work.{After, operations_of, operations_by_power, bus_after}
 use Rattle.ec_model.specs.Operations.{Operation, operation_range, operated_all}
-use Rattle.ec_model.specs.Step.{EventLeavesBy}
+use Rattle.ec_model.specs.Step.{IsStep, EventLeavesBy}
 use Rattle.ec_model.specs.Bench.{Armed, ArmedCut, Bench, BenchCall, CountsNothing, Accesses, Waits, Happens, Marks, Arms, ArmsCut, due_events, events_among, cut_after}
-use Rattle.ec_model.specs.Played.{TornAt, Falls, CutFalls, PlaysEntry, PlaysEvents, PlaysAccess, PlaysWait, PlaysBehindDue, Played, PlayedAll}
+use Rattle.ec_model.specs.Played.{EventBegins, TornAt, Falls, CutFalls, PlaysEntry, PlaysEvents, PlaysAccess, PlaysWait, PlaysBehindDue, Played, PlayedAll}
 use Rattle.ec_model.proofs.StepLaws.{step-stepped}
+use Rattle.ec_model.proofs.PlayRuns.{begins-step}
 use Rattle.ec_model.proofs.PlayCounts.{Later, entry-later, events-later, access-later, wait-later, disarmed, call-later, calls-later, still-first, still-rest, count-same}
 
 -- a cut that falls leaves one flash
@@ -53,6 +54,15 @@ cut-same old event (On awake) one other first second same =
     let flash = sym (ap (λ (after : After). after.table.flash) first.leaves) ∙ same ∙ ap (λ (after : After). after.table.flash) second.leaves in
     ap (λ (after : After). after.table) first.leaves ∙ ap (λ (bytes : List ℕ). off_table bytes old.pin kind) flash ∙ sym (ap (λ (after : After). after.table) second.leaves)
 
+-- an entry of a bench is a step of its controller
+step-of : (old : Bench) (event : Event) (answer meant seen : ℕ) (hurt : Hurt) (new : Bench) → PlaysEntry old event answer meant seen hurt new → IsStep old.table (Step event answer meant seen hurt) new.table
+step-of old event answer meant seen hurt new plays = begins-step hurt plays.begun old.table event old.table.power (record { table = new.table; answer = answer }) plays.step
+
+-- a whole step began all operations of its event
+whole-begun : (begun : ℕ) (table : Table) (event : Event) (power : Power) (after : After) → EventBegins Whole begun table event power after → begun ≡ length (operations_by_power table event power)
+whole-begun begun table event Off after begins = begins.0
+whole-begun begun table event (On awake) after begins = begins.0
+
 -- two benches are one where all that they have is
 bench-same : (one other : Bench) → one.table ≡ other.table → one.armed ≡ other.armed → one.cut ≡ other.cut → one.faults ≡ other.faults → one.cuts ≡ other.cuts → one ≡ other
 bench-same one other table armed cut faults cuts =
@@ -83,15 +93,18 @@ cut-entry-same old event answer meant seen one other still again first second (i
 cut-entry-same old event answer meant seen one other still again first second (inl falls) (inl fell) =
     let same = falls-same old.cut (Rose old.faults one.faults) (Rose old.faults other.faults) first.begun second.begun (operations_of old.table event) old.table.flash one.table.flash other.table.flash still.faults again.faults falls fell first.falls second.falls in
     entry-same-by old event answer meant seen Cut one other still again first second
-    (cut-same old.table event old.table.power (record { table = one.table; answer = answer }) (record { table = other.table; answer = answer }) first.step second.step same.0)
+    (cut-same old.table event old.table.power (record { table = one.table; answer = answer }) (record { table = other.table; answer = answer })
+    (step-of old event answer meant seen Cut one first) (step-of old event answer meant seen Cut other second) same.0)
     same.1
 
 entry-same : (old : Bench) (event : Event) (answer meant seen : ℕ) (hurt : Hurt) (one other : Bench) → CountsNothing old one → CountsNothing old other
     → PlaysEntry old event answer meant seen hurt one → PlaysEntry old event answer meant seen hurt other → one ≡ other
 entry-same old event answer meant seen Whole one other still again first second =
     entry-same-by old event answer meant seen Whole one other still again first second
-    (ap (λ (after : After). after.table) (step-stepped old.table event answer meant seen one.table first.step ∙ sym (step-stepped old.table event answer meant seen other.table second.step)))
-    (first.is_begun ∙ sym second.is_begun)
+    (ap (λ (after : After). after.table)
+    (step-stepped old.table event answer meant seen one.table (step-of old event answer meant seen Whole one first)
+    ∙ sym (step-stepped old.table event answer meant seen other.table (step-of old event answer meant seen Whole other second))))
+    (whole-begun first.begun old.table event old.table.power _ first.step ∙ sym (whole-begun second.begun old.table event old.table.power _ second.step))
 entry-same old event answer meant seen Failed one other still again first second = absurd (still.faults first.cause)
 entry-same old event answer meant seen Cut one other still again first second = cut-entry-same old event answer meant seen one other still again first second first.cause second.cause
 

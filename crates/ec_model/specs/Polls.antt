@@ -1,9 +1,9 @@
 -- A poll of the host until no erase is pending, and a request that is asked behind it.
-use Rattle.std.specs.Prelude.{◌≡◌, ℕ, zero, suc, Bool, true, false, not, ◌==◌, if◌then◌else◌, List, [], ◌∷◌, ◌++◌, IsFalse}
+use Rattle.std.specs.Prelude.{◌≡◌, ℕ, zero, suc, not, ◌==◌, if◌then◌else◌, List, [], ◌∷◌, ◌++◌, IsTrue}
 use Rattle.ec_types.specs.LittleEndian.{u32_at, has_bit}
 use Rattle.ec_model.specs.declared.event.Entry.{Entry}
 use Rattle.ec_model.specs.Packet.{RequestView}
-use Rattle.ec_model.specs.HostCalls.{HostView, Waited, calls_of, view_after}
+use Rattle.ec_model.specs.HostCalls.{HostView, Waited, calls_of, are_calls, view_after}
 use Rattle.ec_model.specs.Asks.{Setting, Got, NoPower, Short, NoReply, Status, got, Asks}
 
 -- the most turns of a poll until the erase is over
@@ -41,6 +41,7 @@ pub record TakesTurn (setting : Setting) (view : HostView) (entries : List Entry
   pub asking : List Entry
   pub end : Got
   pub parts : entries ≡ waiting ++ asking
+  pub waits : IsTrue (are_calls waiting)
   pub waited : calls_of waiting ≡ Waited ∷ []
   pub asked : Asks setting comms_request 4 (view_after waiting view) asking end
   pub turn_is : turn ≡ turn_of end
@@ -57,33 +58,17 @@ Polls (suc turns) setting view entries end =
     (first rest : List Entry) × (turn : Turn) × (entries ≡ first ++ rest) × TakesTurn setting view first turn
     × TurnLeads turn (Polls turns setting (view_after first view) rest end) rest end
 
--- an ask that follows a poll
-pub record PollsThenAsks (setting : Setting) (request : RequestView) (want : ℕ) (view : HostView) (entries : List Entry) (end : Got) : Type 0 where
-  pub polling : List Entry
-  pub asking : List Entry
-  pub parts : entries ≡ polling ++ asking
-  pub polled : Polls poll_turns setting view polling Idle
-  pub asked : Asks setting request want (view_after polling view) asking end
-
--- a poll that did not end idle leaves no reply, or what stopped it
-abbrev pub stopped_got : PollEnd → Got
-stopped_got Idle = NoReply
-stopped_got Lost = NoReply
-stopped_got (Stopped got) = got
-
--- whether a poll ended idle
-abbrev pub is_idle : PollEnd → Bool
-is_idle Idle = true
-is_idle other = false
-
--- a poll that did not end idle
-pub record PollsInVain (setting : Setting) (view : HostView) (entries : List Entry) (end : Got) : Type 0 where
-  pub reached : PollEnd
-  pub polled : Polls poll_turns setting view entries reached
-  pub not_idle : IsFalse (is_idle reached)
-  pub end_is : end ≡ stopped_got reached
+-- more is asked behind a poll that ended idle; another leaves no reply, or what stopped it
+abbrev pub PollLeads : PollEnd → Type 0 → List Entry → Got → Type 0
+PollLeads Idle more rest end = more
+PollLeads Lost more rest end = (rest ≡ []) × (end ≡ NoReply)
+PollLeads (Stopped got) more rest end = (rest ≡ []) × (end ≡ got)
 
 -- a request is asked behind a poll that ends idle
-pub data AsksWhenIdle (setting : Setting) (request : RequestView) (want : ℕ) (view : HostView) (entries : List Entry) (end : Got) : Type 0 where
-  AskedThen : PollsThenAsks setting request want view entries end → AsksWhenIdle setting request want view entries end
-  NotAsked : PollsInVain setting view entries end → AsksWhenIdle setting request want view entries end
+pub record AsksWhenIdle (setting : Setting) (request : RequestView) (want : ℕ) (view : HostView) (entries : List Entry) (end : Got) : Type 0 where
+  pub polling : List Entry
+  pub rest : List Entry
+  pub reached : PollEnd
+  pub parts : entries ≡ polling ++ rest
+  pub polled : Polls poll_turns setting view polling reached
+  pub leads : PollLeads reached (Asks setting request want (view_after polling view) rest end) rest end

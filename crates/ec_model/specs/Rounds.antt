@@ -1,11 +1,10 @@
 -- The rounds of a sync.
-use Rattle.std.specs.Prelude.{◌≡◌, ◌≤◌, ◌-◌, ◌*◌, ℕ, List, [], ◌∷◌, ◌++◌, length, MatchBool, flat_map, ⊤}
+use Rattle.std.specs.Prelude.{◌≡◌, ◌≤◌, ◌-◌, ◌*◌, ℕ, List, [], ◌∷◌, ◌++◌, length, IsTrue, MatchBool, flat_map, ⊤}
 use Rattle.ec_types.specs.declared.bus.BusKind.{BusKind}
 use Rattle.ec_model.specs.declared.event.Entry.{Entry}
 use Rattle.ec_model.specs.Packet.{RequestView}
-use Rattle.ec_model.specs.HostCalls.{HostView, view_after}
-use Rattle.ec_model.specs.Heard.{Heard}
-use Rattle.ec_model.specs.Send.{Send, Quiet}
+use Rattle.ec_model.specs.HostCalls.{HostView, calls_of, are_calls, view_after}
+use Rattle.ec_model.specs.Send.{AskedBy, Quiet}
 use Rattle.ec_model.specs.Asks.{Setting, packet_of}
 use Rattle.ec_model.specs.Tries.{Tries, Said, Answered}
 
@@ -13,10 +12,10 @@ use Rattle.ec_model.specs.Tries.{Tries, Said, Answered}
 abbrev pub protocol_request : RequestView
 protocol_request = record { command = 0x000B; version = 0; body = [] }
 
--- the entries send no GET_PROTOCOL_INFO
+-- the entries put no GET_PROTOCOL_INFO on the bus
 abbrev pub AsksNoProtocol : BusKind → List Entry → Type 0
 AsksNoProtocol bus entries =
-    (before sent after : List Entry) (heard : Heard) → entries ≡ before ++ sent ++ after → Send bus sent (packet_of protocol_request) heard → ⊥
+    (before asked after : List Entry) → entries ≡ before ++ asked ++ after → AskedBy bus (packet_of protocol_request) (calls_of asked) → ⊥
 
 -- a round goes on with GET_PROTOCOL_INFO, and asks it no more
 pub record AsksProtocol (setting : Setting) (view : HostView) (entries : List Entry) : Type 0 where
@@ -31,6 +30,7 @@ pub record AsksProtocol (setting : Setting) (view : HostView) (entries : List En
 pub record IsRound (setting : Setting) (view : HostView) (entries : List Entry) : Type 0 where
   pub quieting : List Entry
   pub rest : List Entry
+  pub calls : IsTrue (are_calls entries)
   pub parts : entries ≡ quieting ++ rest
   pub quiet : Quiet setting.bus quieting
   pub begins : MatchBool (view_after quieting view).on (AsksProtocol setting (view_after quieting view) rest) (rest ≡ [])
@@ -51,12 +51,11 @@ pub record Rounds (bus : BusKind) (view : HostView) (entries : List Entry) (part
   pub whole : flat_map (λ part. part) parts ≡ entries
   pub each : AreRounds 3 bus view parts
 
--- in these entries some command ended in this reply
-pub record IsShown (setting : Setting) (entries : List Entry) (request : RequestView) (status : ℕ) (body : List ℕ) : Type 0 where
+-- in these entries a command that wants so many bytes ended in this reply
+pub record IsShown (setting : Setting) (entries : List Entry) (request : RequestView) (want : ℕ) (status : ℕ) (body : List ℕ) : Type 0 where
   pub before : List Entry
   pub asking : List Entry
   pub after : List Entry
   pub view : HostView
-  pub want : ℕ
   pub parts : entries ≡ before ++ asking ++ after
   pub asked : Tries setting request want view asking (Answered status body)

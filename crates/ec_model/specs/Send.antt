@@ -1,17 +1,25 @@
 -- The transactions of the host: one send, the quiet that brings the bus to rest, and a request that has no reply.
-use Rattle.std.specs.Prelude.{◌≡◌, ℕ, Bool, List, [], ◌∷◌, ◌++◌, IsTrue, Some}
+use Rattle.std.specs.Prelude.{◌≡◌, ◌≢◌, ℕ, Bool, List, [], ◌∷◌, ◌++◌, IsTrue, Some}
 use Rattle.ec_types.specs.declared.bus.BusKind.{BusKind}
 use Rattle.ec_types.specs.declared.bus.BusKind.TheVariants.{Lpc, I2c, Spi}
 use Rattle.ec_model.specs.declared.event.Access.{Access}
 use Rattle.ec_model.specs.declared.event.Access.TheVariants.{I2cStartRead, I2cStop, SpiDeselect}
 use Rattle.ec_model.specs.declared.event.Entry.{Entry}
 use Rattle.ec_model.specs.Bus.{is_busy}
-use Rattle.ec_model.specs.HostCalls.{HostCall, Did, Waited, calls_of}
+use Rattle.ec_model.specs.Packet.{request_packet}
+use Rattle.ec_model.specs.Bodies.{reboot_ask}
+use Rattle.ec_model.specs.HostCalls.{HostCall, Did, Waited, calls_of, are_calls}
 use Rattle.ec_model.specs.Upset.{IsUndisturbed, has_one_byte}
 use Rattle.ec_model.specs.Heard.{Heard, Reply, poll_end, spaced_reads}
 use Rattle.ec_model.specs.SendLpc.{status_in, LpcAsked, LpcBlocked, LpcSend}
 use Rattle.ec_model.specs.SendI2c.{I2cAsked, I2cUnstarted, I2cUnwritten, I2cSend}
 use Rattle.ec_model.specs.SendSpi.{SpiAsked, SpiSend}
+
+-- the packet was put on the bus, by the bus
+abbrev pub AskedBy : BusKind → List ℕ → List HostCall → Type 0
+AskedBy Lpc packet calls = LpcAsked packet calls
+AskedBy I2c packet calls = I2cAsked packet calls
+AskedBy Spi packet calls = SpiAsked packet calls
 
 -- one send, by the bus
 abbrev pub SendsBy : BusKind → List ℕ → List HostCall → Heard → Type 0
@@ -21,7 +29,7 @@ SendsBy Spi packet calls heard = SpiSend packet calls heard
 
 -- the entries are the host's accesses for the packet, and this is what it heard
 abbrev pub Send : BusKind → List Entry → List ℕ → Heard → Type 0
-Send bus entries packet heard = SendsBy bus packet (calls_of entries) heard
+Send bus entries packet heard = IsTrue (are_calls entries) × SendsBy bus packet (calls_of entries) heard
 
 -- on LPC the host looked until the bus was idle, or as long as it may
 pub record LpcQuiet (calls : List HostCall) : Type 0 where
@@ -43,7 +51,7 @@ QuietBy Spi calls = OneAccess SpiDeselect calls
 
 -- the entries bring the bus to rest
 abbrev pub Quiet : BusKind → List Entry → Type 0
-Quiet bus entries = QuietBy bus (calls_of entries)
+Quiet bus entries = IsTrue (are_calls entries) × QuietBy bus (calls_of entries)
 
 -- LPC: a request that has no reply was sent
 pub record LpcColdSent (packet : List ℕ) (calls : List HostCall) : Type 0 where
@@ -85,18 +93,22 @@ ColdBy Spi packet calls = SpiColdSent packet calls
 
 -- the entries send a request that has no reply
 abbrev pub Cold : BusKind → List ℕ → List Entry → Type 0
-Cold bus packet entries = ColdBy bus packet (calls_of entries)
+Cold bus packet entries = IsTrue (are_calls entries) × ColdBy bus packet (calls_of entries)
 
 -- a whole undisturbed transaction: this packet was sent, and this reply was shown
 pub record Exchange (bus : BusKind) (entries : List Entry) (request reply : List ℕ) : Type 0 where
   pub undisturbed : IsUndisturbed entries
   pub sent : Send bus entries request (Reply reply)
 
--- the entries of one transaction
+-- the packet of a COLD
+abbrev pub cold_packet : List ℕ
+cold_packet = request_packet 0x00D2 0 (reboot_ask 4 0)
+
+-- the entries of one transaction: a quiet, the send of a packet that has a reply, or that of a COLD
 pub data IsTransaction (bus : BusKind) (entries : List Entry) : Type 0 where
   Quiets : Quiet bus entries → IsTransaction bus entries
-  Sends : (packet : List ℕ) (heard : Heard) → Send bus entries packet heard → IsTransaction bus entries
-  Colds : (packet : List ℕ) → Cold bus packet entries → IsTransaction bus entries
+  Sends : (packet : List ℕ) (heard : Heard) → packet ≢ cold_packet → Send bus entries packet heard → IsTransaction bus entries
+  Colds : Cold bus cold_packet entries → IsTransaction bus entries
 
 -- no transaction among the entries has more than one changed byte, nor one beside a reset or a change of power
 abbrev pub OneByte : BusKind → List Entry → Type 0

@@ -1,5 +1,5 @@
 -- One send on SPI.
-use Rattle.std.specs.Prelude.{◌≡◌, ◌≢◌, ℕ, Bool, true, not, ◌&&◌, ◌==◌, if◌then◌else◌, List, [], ◌∷◌, ◌++◌, length, slice_index, IsTrue, Some}
+use Rattle.std.specs.Prelude.{◌≡◌, ◌≢◌, ℕ, Bool, true, ◌&&◌, ◌||◌, ◌==◌, if◌then◌else◌, List, [], ◌∷◌, ◌++◌, length, slice_index, IsTrue, Some}
 use Rattle.ec_model.specs.declared.event.Access.TheVariants.{SpiSelect, SpiByte, SpiDeselect}
 use Rattle.ec_model.specs.Bus.{largest_body}
 use Rattle.ec_model.specs.HostCalls.{HostCall, Did}
@@ -17,8 +17,8 @@ pub record SpiAsked (packet : List ℕ) (calls : List HostCall) : Type 0 where
   pub made : calls ≡ Did SpiSelect selected ∷ spi_writes packet gots
 
 -- what the host hears where no reply begins: nothing, where the controller says so or makes it wait to the end
-abbrev pub heard_without : Bool → ℕ → Heard
-heard_without ready last = if ready && not (last == 0xFF) then Bad else Silent
+abbrev pub heard_without : ℕ → Heard
+heard_without last = if is_spi_waiting last || (last == 0xFF) then Silent else Bad
 
 -- SPI: no reply began
 pub record SpiUnserved (packet : List ℕ) (calls : List HostCall) (heard : Heard) : Type 0 where
@@ -30,7 +30,7 @@ pub record SpiUnserved (packet : List ℕ) (calls : List HostCall) (heard : Hear
   pub polled : poll_end is_spi_waiting 5 answers ≡ Some ready
   pub no_reply : last_byte answers ≢ 0xEC
   pub made : calls ≡ first ++ spaced_reads (SpiByte 0) answers ++ Did SpiDeselect stopped ∷ []
-  pub heard_is : heard ≡ heard_without ready (last_byte answers)
+  pub heard_is : heard ≡ heard_without (last_byte answers)
 
 -- whether the host reads on behind a header on SPI
 abbrev pub spi_reads_on : List ℕ → Bool

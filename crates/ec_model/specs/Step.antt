@@ -15,7 +15,7 @@ use Rattle.ec_model.specs.Boot.{booted_table}
 use Rattle.ec_model.specs.Operations.{Operation, StopsAt, touched_by}
 use Rattle.ec_model.specs.Answer.{Outcome, Answered, Restarts}
 use Rattle.ec_model.specs.Handle.{handled, handled_reads}
-use Rattle.ec_model.specs.Work.{After, Work, Serve, HashNext, Boot, is_power_on, bus_after, work_on, work_off, lost_answer, work_operations}
+use Rattle.ec_model.specs.Work.{After, Work, Serve, HashNext, Boot, bus_after, work_on, work_off, lost_answer, work_operations}
 use Rattle.ec_model.specs.Erasing.{with_job}
 use Rattle.ec_model.specs.WholeStep.{worked, worked_off}
 
@@ -41,16 +41,6 @@ work_reads core limit (Serve request) = outcome_reads (handled_reads core limit 
 work_reads core limit HashNext = true
 work_reads core limit (Boot cause) = true
 work_reads core limit other = false
-
--- whether an event reads the flash, by whether the controller is on
-abbrev pub reads_by_power : Table → Event → Power → Bool
-reads_by_power table event Off = is_power_on event
-reads_by_power table event (On awake) =
-    work_reads (core_of table awake) (packet_limit (kind_of (bus_after awake.bus event).state)) (work_on awake event)
-
--- whether an event reads the flash
-abbrev pub reads_flash : Table → Event → Bool
-reads_flash table event = reads_by_power table event table.power
 
 -- what a read that failed leaves of some work
 abbrev pub unread : Core → BusAnswer → ℕ → Work → After
