@@ -1,12 +1,12 @@
 -- Entries behind others: their calls, their runs, and whether the controller is on behind them.
-use Rattle.std.proofs.Common.{◌≡◌, refl, ap, ◌∙◌, subst, ℕ, ◌+◌, Bool, cond, List, [], ◌∷◌, ◌++◌, Option, Some, None}
+use Rattle.std.proofs.Common.{◌≡◌, refl, ap, ◌∙◌, subst, ℕ, ◌+◌, Bool, true, cond, List, [], ◌∷◌, ◌++◌, Option, Some, None}
 use Rattle.std.specs.Prelude.{count_by}
 use Rattle.std.proofs.lemmas.List.Sums.{sum_by-append}
 use Rattle.ec_model.specs.declared.event.Event.{Event}
 use Rattle.ec_model.specs.declared.event.Event.TheVariants.{Access as AccessEvent, Tick, Reset, Power as PowerEvent, Pin as PinEvent}
 use Rattle.ec_model.specs.declared.event.Entry.{Entry}
 use Rattle.ec_model.specs.declared.event.Entry.TheVariants.{Step, Mark}
-use Rattle.ec_model.specs.HostCalls.{HostCall, call_before, calls_of, on_after, on_after_entry}
+use Rattle.ec_model.specs.HostCalls.{HostCall, call_before, calls_of, are_calls, on_after, on_after_entry}
 use Rattle.ec_model.specs.Table.{Table}
 use Rattle.ec_model.specs.Run.{IsRun}
 use Rattle.ec_wire.specs.Calls.{RunsAlong}
@@ -25,6 +25,14 @@ calls_of-append [] more = refl
 calls_of-append (Step event answer meant seen hurt ∷ entries) more =
     ap (λ (calls : List HostCall). call_before event meant seen calls) (calls_of-append entries more) ∙ call_before-append event meant seen (calls_of entries) (calls_of more)
 calls_of-append (Mark line ∷ entries) more = calls_of-append entries more
+
+-- calls behind calls
+pub are_calls-append : (entries more : List Entry) → are_calls entries ≡ true → are_calls more ≡ true → are_calls (entries ++ more) ≡ true
+are_calls-append [] more first second = second
+are_calls-append (Mark line ∷ entries) more first second = cc
+are_calls-append (Step event answer meant seen hurt ∷ []) [] first second = first
+are_calls-append (Step event answer meant seen hurt ∷ []) (entry ∷ more) first second = second
+are_calls-append (Step event answer meant seen hurt ∷ entry ∷ entries) more first second = are_calls-append (entry ∷ entries) more first second
 
 -- a run behind a run
 pub run-append : (entries more : List Entry) (old middle new : Table) → IsRun old entries middle → IsRun middle more new → IsRun old (entries ++ more) new

@@ -11,7 +11,7 @@ use Rattle.ec_model.specs.declared.event.Entry.TheVariants.{Step, Mark}
 use Rattle.ec_model.specs.Upset.{access_byte, is_world, is_changed, is_cut_entry}
 use Rattle.ec_model.specs.HostCalls.{HostCall, Did, Waited, with_byte, calls_of, on_after}
 use Rattle.ec_wire.specs.Calls.{WireView, RoseBy, KeepsQuiet, Grows, AccessAdds, WaitAdds, Made, is_wire_step, is_failed_entry}
-use Rattle.ec_wire.proofs.Appends.{calls_of-append, runs-append, runs-nil, on_after-append, count_by-append}
+use Rattle.ec_wire.proofs.Appends.{calls_of-append, are_calls-append, runs-append, runs-nil, on_after-append, count_by-append}
 
 -- two tests that hold
 both-true : (a b : Bool) → a ≡ true → b ≡ true → (a && b) ≡ true
@@ -52,6 +52,7 @@ grows-then added more old middle new first second =
       room = omega (arith, counted, first.room, second.room);
       on = second.on ∙ ap (λ (on : Bool). on_after more on) first.on ∙ sym (on_after-append added more old.on);
       bus = second.bus ∙ first.bus;
+      calls = are_calls-append added more first.calls second.calls;
       steps = list_all-append is_wire_step added more ∙ both-true _ _ first.steps second.steps;
       quiet = λ off. let quiet = first.quiet off in quiet-then added more middle.armed new.armed quiet (second.quiet quiet.disarmed);
       faults = counts-then is_failed_entry added more old.faults middle.faults new.faults first.faults second.faults;
@@ -67,6 +68,7 @@ grows-nil view =
       room = omega arith;
       on = refl;
       bus = refl;
+      calls = refl;
       steps = refl;
       quiet = λ off. record { disarmed = off; no_event = refl; no_byte = refl };
       faults = record { later = omega arith; risen = omega arith };

@@ -5,7 +5,7 @@ use Rattle.flash_dev.specs.Counts.{last_count}
 use Rattle.flash_dev.specs.Told.{Changes}
 use Rattle.ec_types.specs.declared.bus.BusKind.{BusKind}
 use Rattle.ec_model.specs.declared.event.Access.{Access}
-use Rattle.ec_model.specs.HostCalls.{HostCall, with_byte, calls_of, on_after}
+use Rattle.ec_model.specs.HostCalls.{HostCall, with_byte, calls_of, are_calls, on_after}
 use Rattle.ec_model.specs.declared.event.Event.TheVariants.{Access as AccessEvent, Tick}
 use Rattle.ec_model.specs.declared.event.Entry.{Entry}
 use Rattle.ec_model.specs.declared.event.Entry.TheVariants.{Step, Mark}
@@ -76,6 +76,7 @@ pub record Grows (added : List Entry) (old new : WireView) : Type 0 where
   pub room : new.spare + length (calls_of added) ≡ old.spare
   pub on : new.on ≡ on_after added old.on
   pub bus : new.bus ≡ old.bus
+  pub calls : IsTrue (are_calls added)
   pub steps : IsTrue (list_all is_wire_step added)
   pub quiet : IsFalse old.armed → KeepsQuiet added new.armed
   pub faults : RoseBy (count_by is_failed_entry added) old.faults new.faults

@@ -105,7 +105,7 @@ hears-whole outcome cleared after bytes heard old first second new none result h
 -- calls that were made are those of entries that were added
 pub sends-by : (packet : List ℕ) (calls : List HostCall) (heard : Heard) (old new : WireView) → LpcSend packet calls heard → Made calls old new → Sends Lpc packet heard old new
 sends-by packet calls heard old new sent made =
-    record { added = made.added; grows = made.grows; sent = subst (λ (xs : List HostCall). LpcSend packet xs heard) (sym made.calls_are) sent }
+    record { added = made.added; grows = made.grows; sent = (made.grows.calls, subst (λ (xs : List HostCall). LpcSend packet xs heard) (sym made.calls_are) sent) }
 
 -- a send that found the bus busy
 pub sends-blocked : (packet : List ℕ) (old new : WireView) → LpcAsks packet false old new → Sends Lpc packet Silent old new
@@ -139,4 +139,4 @@ sends-served packet heard old first second new asks polls hears =
 pub quiets-polled : (ready : Bool) (old new : WireView) → PollsSpaced ready old new → Quiets Lpc old new
 quiets-polled ready old new polls =
     let quiet : LpcQuiet (calls_of polls.made.added) = record { statuses = polls.statuses; ready = ready; polled = polls.polled; made = polls.made.calls_are } in
-    record { added = polls.made.added; grows = polls.made.grows; quiet = quiet }
+    record { added = polls.made.added; grows = polls.made.grows; quiet = (polls.made.grows.calls, quiet) }
