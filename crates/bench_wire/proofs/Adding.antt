@@ -82,6 +82,7 @@ access-adds access answer hurt old new adds =
       room = adds.room;
       on = adds.extends.on;
       bus = adds.extends.bus;
+      calls = refl;
       steps = refl;
       quiet = λ off. record { disarmed = adds.extends.armed off; no_event = refl; no_byte = rw (unchanged (AccessEvent access) answer hurt) refl };
       faults = adds.extends.faults;
@@ -109,6 +110,7 @@ wait-adds hurt old new adds =
         room = adds.room;
         on = adds.extends.on;
         bus = adds.extends.bus;
+        calls = refl;
         steps = refl;
         quiet = λ off. record { disarmed = adds.extends.armed off; no_event = refl; no_byte = refl };
         faults = adds.extends.faults;

@@ -15,8 +15,8 @@ use Rattle.host_runs.specs.Exchange.{first_statuses, lpc_exchange}
 use Rattle.host_transport.specs.Once.{Ending, Said, NoPower}
 use Rattle.ectool_lines.specs.Requests.{Asked, packet_of}
 
--- the request that waits is served first; then the command is handled, its exchange on the bus brings the response and leads to
--- the state behind, and the host hears its status and body; the bus shows status 0 then
+-- the request that waits is served first; then the command is handled, its exchange on the bus brings the response, and the host
+-- hears its status and body; the exchange leads to the core that the command leaves, with status 0 on the bus
 pub record IsAnswered (old : Table) (asked : Asked) (entries : List Entry) (ending : Ending) (new : Table) : Type 0 where
   pub awake : Awake
   pub after : Core

@@ -16,7 +16,7 @@ use Rattle.ec_model.specs.Handle.{handled}
 use Rattle.ec_model.specs.WholeStep.{after_outcome}
 use Rattle.ec_model.specs.Syncable.{settled}
 use Rattle.host_runs.specs.Calm.{CallsLead}
-use Rattle.host_runs.specs.Exchange.{status_of, first_statuses}
+use Rattle.host_runs.specs.Exchange.{lpc_status_seen, first_statuses}
 use Rattle.host_runs.proofs.LpcLead.{lpc, tick-lead, ready-lead}
 
 -- these statuses were seen on a table that is on LPC, and calls lead on from the settled table, whose bus is not busy
@@ -45,10 +45,10 @@ settled-served : (core : Core) (window : List ℕ) (outcome : ℕ) (result : Out
 settled-served core window outcome result same = ap (λ (r : Outcome). (after_outcome core (record { state = lpc window 0x06 outcome; answer = 0 }) 0 r).table) same
 
 -- two statuses are seen on it
-first-served : (core : Core) (window : List ℕ) (outcome : ℕ) (table : Table) (byte next status : ℕ) (bytes : List ℕ) → settled (table_of core (lpc window 0x06 outcome)) ≡ table → byte ≡ 0x06 → next ≡ status → status_of table ≡ status → bytes ≡ [] →
+first-served : (core : Core) (window : List ℕ) (outcome : ℕ) (table : Table) (byte next status : ℕ) (bytes : List ℕ) → settled (table_of core (lpc window 0x06 outcome)) ≡ table → byte ≡ 0x06 → next ≡ status → lpc_status_seen table ≡ status → bytes ≡ [] →
     byte ∷ next ∷ bytes ≡ first_statuses (table_of core (lpc window 0x06 outcome))
 first-served core window outcome table byte next status bytes same first second shown none =
-    let third : next ≡ status_of (settled (table_of core (lpc window 0x06 outcome))) = second ∙ sym shown ∙ ap (λ (t : Table). status_of t) (sym same) in
+    let third : next ≡ lpc_status_seen (settled (table_of core (lpc window 0x06 outcome))) = second ∙ sym shown ∙ ap (λ (t : Table). lpc_status_seen t) (sym same) in
     rw (first, none) (ap (λ (n : ℕ). 0x06 ∷ n ∷ []) third)
 
 -- no request waits

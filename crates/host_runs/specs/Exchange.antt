@@ -13,14 +13,14 @@ use Rattle.ec_model.specs.WholeStep.{stepped}
 use Rattle.ec_wire.specs.Quiet.{quiet_entry}
 use Rattle.host_runs.specs.Resting.{is_waiting}
 
--- the status that the host sees on a table
-abbrev pub status_of : Table → ℕ
-status_of table = (stepped table (AccessEvent status_in)).answer
+-- the byte that one look at LPC's status port sees on a table
+abbrev pub lpc_status_seen : Table → ℕ
+lpc_status_seen table = (stepped table (AccessEvent status_in)).answer
 
 -- the statuses that the host sees before it writes a request: one, and where a request waits, also that behind the wait in
 -- which it is served
 abbrev pub first_statuses : Table → List ℕ
-first_statuses table = status_of table ∷ (if is_waiting table.power then status_of (settled table) ∷ [] else [])
+first_statuses table = lpc_status_seen table ∷ (if is_waiting table.power then lpc_status_seen (settled table) ∷ [] else [])
 
 -- the host sees these statuses, writes the request and the command byte, waits once, sees that a response is there, and reads
 -- the result byte and the response

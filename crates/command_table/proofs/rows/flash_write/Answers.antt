@@ -29,7 +29,7 @@ returns-in-None-clause-leaves g c =
     let is : IsAllowed n c.args.version old request =
     allowed-from n c.args.version old c.args.at c.args.bytes.now (search rules) (omega (arith, c.requires))
     (λ core body length_is live_is range_is. c.in-None.ensures.refusal core body length_is (rw c.live-live.ensures.live live_is) range_is)
-    may.some may.inside (has-bytes old.device.extent old.live.hash old.nonce c.live-live.ensures.valid.hash) in
+    may.units.some may.units.inside (has-bytes old.device.extent old.live.hash old.nonce c.live-live.ensures.valid.hash) in
     write-told n c.args.version old new request c.write_pieces.result c.hurt_after-hurt.result c.end.new.self.hurt c.end.new.self.status c.end.new.self.body is sized
     (ran-at old new c.write_pieces.result c.args.at c.args.bytes.now (search rules) (λ count enough. c.write_pieces.ensures.ran count enough))
     c.hurt_after-hurt.ensures c.end.ensures.hurt c.end.ensures.status c.end.ensures.body
@@ -44,5 +44,5 @@ returns-in-None-clause-wear g c =
     let is : IsAllowed n c.args.version old request =
     allowed-from n c.args.version old c.args.at c.args.bytes.now (search rules) (omega (arith, c.requires))
     (λ core body length_is live_is range_is. c.in-None.ensures.refusal core body length_is (rw c.live-live.ensures.live live_is) range_is)
-    may.some may.inside (has-bytes old.device.extent old.live.hash old.nonce c.live-live.ensures.valid.hash) in
+    may.units.some may.units.inside (has-bytes old.device.extent old.live.hash old.nonce c.live-live.ensures.valid.hash) in
     write-wears n c.args.version old c.args.at (g.R.Running.run c.write_pieces.new.state).device.wear c.args.bytes.now is sized (search rules) (λ count enough. c.write_pieces.ensures.wear count enough)
