@@ -244,15 +244,12 @@ impl FlashWriteAsk {
     /// The fields that the bytes spell; None exactly where there are more than 536, the most that a packet has behind its
     /// header, or not as many bytes follow as the second number says.
     pub fn read(bytes: &[u8]) -> Option<Self>
-        ensures some { IsSome result ↔ ((length bytes.now ≤ 536) × IsTrue (is_write_spelled bytes.now)) }
+        ensures some { IsSome result ↔ IsTrue (is_write_spelled bytes.now) }
         ensures spelled { IfSome result (λ ask. bytes.now ≡ flash_write_ask ask.offset ask.bytes) }
         ensures back { (offset : ℕ) (written : List ℕ) → offset < 2 ^ 32 → length written ≤ 528 →
             bytes.now ≡ flash_write_ask offset written →
             IsSomeAnd result (λ ask. (ask.offset ≡ offset) × (ask.bytes ≡ written)) }
     {
-        if bytes.len() > 536 {
-            return None;
-        }
         let ask = FlashWriteAskRef::read(bytes)?;
         Some(FlashWriteAsk {
             offset: ask.offset,
@@ -282,16 +279,17 @@ pub struct FlashWriteAskRef<'a> {
 }
 
 impl<'a> FlashWriteAskRef<'a> {
-    /// The fields that the bytes spell; None exactly where not as many bytes follow as the second number says.
+    /// The fields that the bytes spell; None exactly where there are more than 536, the most that a packet has behind its
+    /// header, or not as many bytes follow as the second number says.
     pub fn read(bytes: &'a [u8]) -> Option<FlashWriteAskRef<'a>>
         ensures some { IsSome result ↔ IsTrue (is_write_spelled bytes.now) }
         ensures spelled { IfSome result (λ ask. bytes.now ≡ flash_write_ask ask.offset ask.bytes.now) }
         ensures short { IfSome result (λ ask. 8 + length ask.bytes.now ≡ length bytes.now) }
-        ensures back { (offset : ℕ) (written : List ℕ) → offset < 2 ^ 32 → length written < 2 ^ 32 →
+        ensures back { (offset : ℕ) (written : List ℕ) → offset < 2 ^ 32 → length written ≤ 528 →
             bytes.now ≡ flash_write_ask offset written →
             IsSomeAnd result (λ ask. (ask.offset ≡ offset) × (ask.bytes.now ≡ written)) }
     {
-        if bytes.len() < 8 {
+        if bytes.len() < 8 || bytes.len() > 536 {
             return None;
         }
         let mut columns = Columns::new(bytes);

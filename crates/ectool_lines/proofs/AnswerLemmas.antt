@@ -136,7 +136,7 @@ heard-by : (power : Power) (on : Bool) (table last : Table) (asked : Asked) (ent
 heard-by (On first) true table last asked entries ending after power on ready proper hears run calm =
     let sent = hears.once in
     let packet = packet_of asked in
-    let serves = lpc-calm table first packet (calls_of entries) sent.heard last ready.valid power ready.kind proper.plain proper.short sent.sent (calm_lead table entries last calm run) in
+    let serves = lpc-calm table first packet (calls_of entries) sent.heard last ready.valid power ready.kind proper.plain proper.short sent.sent.1 (calm_lead table entries last calm run) in
     let core = core_of (settled table) serves.awake in
     let facts = bus-facts (settled table) serves.awake (settled-valid table ready.valid) serves.on in
     answered-by table last first serves.awake asked entries ending after (handled core 256 packet) power serves.on refl (plain-answered packet core 256 proper.plain) (proper.wanted core facts.core) ready proper hears run calm

@@ -149,13 +149,13 @@ settles-calm bus old new kind quiets law =
 -- LPC: an undisturbed send to a controller that is on
 pub lpc-serves : (packet : List ℕ) (heard : Heard) (old new : WireView) → old.bus ≡ Lpc → IsPlain packet → length packet ≤ 256 → Sends Lpc packet heard old new → ServesWhereCalm packet heard old new
 lpc-serves packet heard old new kind plain short sends =
-    serves-calm Lpc packet heard old new kind sends (λ told awake left valid on is lead. lpc-calm told awake packet (calls_of sends.added) heard left valid on is plain short sends.sent lead)
+    serves-calm Lpc packet heard old new kind sends (λ told awake left valid on is lead. lpc-calm told awake packet (calls_of sends.added) heard left valid on is plain short sends.sent.1 lead)
 
 -- LPC: what an undisturbed send heard
 pub lpc-caused : (packet : List ℕ) (heard : Heard) (old new : WireView) → old.bus ≡ Lpc → IsPlain packet → length packet ≤ 256 → Sends Lpc packet heard old new → CausedWhereCalm heard old new
 lpc-caused packet heard old new kind plain short sends =
-    caused-calm Lpc packet heard old new kind sends (λ told awake left valid on is lead. lpc-calm told awake packet (calls_of sends.added) heard left valid on is plain short sends.sent lead)
-    (λ told left off lead. lpc-off told packet (calls_of sends.added) heard left off sends.sent lead)
+    caused-calm Lpc packet heard old new kind sends (λ told awake left valid on is lead. lpc-calm told awake packet (calls_of sends.added) heard left valid on is plain short sends.sent.1 lead)
+    (λ told left off lead. lpc-off told packet (calls_of sends.added) heard left off sends.sent.1 lead)
 
 -- LPC: each entry of an undisturbed send
 pub lpc-exchanged : (packet : List ℕ) (heard : Heard) (old new : WireView) → old.bus ≡ Lpc → IsPlain packet → length packet ≤ 256 → Sends Lpc packet heard old new → ExchangesWhereCalm packet heard old new
@@ -167,10 +167,10 @@ lpc-exchanged packet heard old new kind plain short sends =
 -- LPC: an undisturbed poll
 pub lpc-settles : (old new : WireView) → old.bus ≡ Lpc → Quiets Lpc old new → SettlesWhereCalm old new
 lpc-settles old new kind quiets =
-    settles-calm Lpc old new kind quiets (λ told awake left valid on is lead. lpc-quiet told awake (calls_of quiets.added) left valid on is quiets.quiet lead)
+    settles-calm Lpc old new kind quiets (λ told awake left valid on is lead. lpc-quiet told awake (calls_of quiets.added) left valid on is quiets.quiet.1 lead)
 
 -- LPC: no request waits behind a send
 pub lpc-rests : (packet : List ℕ) (heard : Heard) (old new : WireView) → Sends Lpc packet heard old new → RestsBehind old new
 lpc-rests packet heard old new sends =
     changes-map _ _ old.table new.table (λ (told left : Table) (run : IsRun told sends.added left) (agrees : Agrees old.bus old.on told).
-    ends-rest told sends.added left agrees.valid (lpc-ends packet (calls_of sends.added) heard sends.sent) run) sends.grows.run
+    ends-rest told sends.added left agrees.valid (lpc-ends packet (calls_of sends.added) heard sends.sent.1) run) sends.grows.run

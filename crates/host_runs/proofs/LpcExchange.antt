@@ -110,5 +110,5 @@ lpc-exchange table awake packet calls heard new after result body valid kind on 
 pub exchange-run : (table : Table) (awake : Awake) (packet : List ℕ) (added : List Entry) (heard : Heard) (new : Table) (after : Core) (result : ℕ) (body : List ℕ) → Valid table → table.kind ≡ Lpc → (settled table).power ≡ On awake → IsPlain packet → length packet ≤ 256 →
     Send Lpc added packet heard → IsRun table added new → IsUndisturbed added → list_all is_wire_step added ≡ true → handled (core_of (settled table) awake) 256 packet ≡ Answered after result body → IsExchange (first_statuses table) packet (response_packet result body) after added heard new
 exchange-run table awake packet added heard new after result body valid kind on plain short sent run calm steps same =
-    let exchanges = lpc-exchange table awake packet (calls_of added) heard new after result body valid kind on plain short sent (calm_lead table added new calm run) same in
+    let exchanges = lpc-exchange table awake packet (calls_of added) heard new after result body valid kind on plain short sent.1 (calm_lead table added new calm run) same in
     record { entries = determined added steps calm ∙ ap (λ (calls : List HostCall). map quiet_entry calls) exchanges.calls_are; exchanges = exchanges }
