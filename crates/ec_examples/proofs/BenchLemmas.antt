@@ -2,12 +2,18 @@
 use Rattle.std.proofs.Common.{refl, ℕ, List, arith, length}
 use Rattle.ec_model.specs.declared.event.Event.{Event}
 use Rattle.ec_model.specs.declared.event.Hurt.TheVariants.{Whole}
-use Rattle.ec_model.specs.Table.{Table}
-use Rattle.ec_model.specs.Work.{operations_of}
-use Rattle.ec_model.specs.Step.{IsStep}
+use Rattle.ec_model.specs.Table.{Table, Power, Off, On}
+use Rattle.ec_model.specs.Work.{After, operations_by_power, operations_of}
+use Rattle.ec_model.specs.Step.{EventLeavesBy, IsStep}
 use Rattle.ec_model.specs.declared.event.Entry.TheVariants.{Step}
 use Rattle.ec_model.specs.Bench.{Armed, unarmed}
-use Rattle.ec_model.specs.Played.{PlaysEntry}
+use Rattle.ec_model.specs.Played.{EventBegins, PlaysEntry}
+
+-- a whole event began all of its operations
+begins : (table : Table) (event : Event) (power : Power) (after : After) → EventLeavesBy Whole table event power after
+    → EventBegins Whole (length (operations_by_power table event power)) table event power after
+begins table event Off after leaves = (refl, leaves)
+begins table event (On awake) after leaves = (refl, leaves)
 
 -- a whole step of the controller is an entry of its bench, whatever events are armed
 pub whole_entry : (table : Table) (armed : List Armed) (event : Event) (answer meant seen : ℕ) (after : Table)
@@ -15,8 +21,7 @@ pub whole_entry : (table : Table) (armed : List Armed) (event : Event) (answer m
     → PlaysEntry (record (unarmed table 0 0) { armed = armed }) event answer meant seen Whole (record (unarmed after 0 0) { armed = armed })
 whole_entry table armed event answer meant seen after step = record {
   begun = length (operations_of table event);
-  step = step;
-  is_begun = refl;
+  step = begins table event table.power (record { table = after; answer = answer }) step;
   falls = tt;
   cause = tt;
   cut_is = refl;

@@ -2,10 +2,10 @@
 use Rattle.std.proofs.Common.{◌≡◌, refl, sym, subst, ℕ, true, List, [], ◌∷◌, ◌++◌, take}
 use Rattle.ec_types.specs.declared.bus.BusKind.TheVariants.{I2c}
 use Rattle.ec_model.specs.HostCalls.{HostView, calls_of, view_after}
-use Rattle.ec_model.specs.Heard.{Heard, Reply}
-use Rattle.ec_model.specs.SendI2c.{I2cSend, I2cWasUnstarted, I2cWasUnwritten, I2cWasUnread, I2cWasServed}
+use Rattle.ec_model.specs.Heard.{Reply}
+use Rattle.ec_model.specs.SendI2c.{I2cWasServed}
 use Rattle.ec_model.specs.Send.{Send}
-use Rattle.ec_model.specs.Asks.{Status, packet_of, Unsent, unsent, IsSent, AsksBy}
+use Rattle.ec_model.specs.Asks.{Status, Unsent, unsent, IsSent, AsksBy}
 use Rattle.ec_model.specs.Tries.{Tries, Answered, Final}
 use Rattle.ec_model.specs.Rounds.{AsksNoProtocol, IsRound, protocol_request as protocol_asked}
 use Rattle.ec_examples.specs.I2cExchanges.{stopped, i2c_exchange, protocol_request, protocol_response, short_round}
@@ -15,32 +15,28 @@ filled : {X : Type 0} (front : List X) (x : X) (rest : List X) → [] ≡ front 
 filled [] x rest same = cc
 filled (y ∷ front) x rest same = cc
 
--- no calls send nothing
-none-sent : (packet : List ℕ) (heard : Heard) → I2cSend packet [] heard → ⊥
-none-sent packet heard (I2cWasUnstarted sent is) = filled [] _ _ sent.made
-none-sent packet heard (I2cWasUnwritten sent is) = filled [] _ _ sent.made
-none-sent packet heard (I2cWasUnread sent is) = filled sent.first _ _ sent.made
-none-sent packet heard (I2cWasServed sent) = filled _ _ [] sent.made
-
 -- nothing asks for the protocol in no entries
 pub none-asked : AsksNoProtocol I2c []
-none-asked [] [] after heard parts sent = none-sent (packet_of protocol_asked) heard sent
-none-asked [] (entry ∷ asking) after heard parts sent = cc
-none-asked (entry ∷ before) asking after heard parts sent = cc
+none-asked [] [] after parts asked = filled [] _ _ asked.made
+none-asked [] (entry ∷ asking) after parts asked = cc
+none-asked (entry ∷ before) asking after parts asked = cc
 
 -- the exchange is a send
 protocol-sent : Send I2c (i2c_exchange protocol_request protocol_response) protocol_request (Reply protocol_response)
-protocol-sent = I2cWasServed (record {
-  first = take 10 (calls_of (i2c_exchange protocol_request protocol_response));
-  outcome = 0;
-  size = 20;
-  bytes = protocol_response;
-  stopped = 0;
-  asked = record { made = refl };
-  whole = refl;
-  made = refl;
-  heard_is = refl;
-})
+protocol-sent = (
+  refl,
+  I2cWasServed (record {
+    first = take 10 (calls_of (i2c_exchange protocol_request protocol_response));
+    outcome = 0;
+    size = 20;
+    bytes = protocol_response;
+    stopped = 0;
+    asked = record { made = refl };
+    whole = refl;
+    made = refl;
+    heard_is = refl;
+  }),
+)
 
 -- what GET_PROTOCOL_INFO is answered
 abbrev pub told : List ℕ
@@ -81,8 +77,9 @@ short-round floor spare sent =
     record {
       quieting = stopped 0;
       rest = i2c_exchange protocol_request protocol_response;
+      calls = refl;
       parts = refl;
-      quiet = record { got = 0; made = refl };
+      quiet = (refl, record { got = 0; made = refl });
       begins = record {
         asking = i2c_exchange protocol_request protocol_response;
         rest = [];

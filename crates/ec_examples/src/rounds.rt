@@ -16,6 +16,6 @@ pub fn two_short_rounds()
 
 /// Such a round is shown the limits of the bus.
 pub fn what_a_round_is_shown()
-    ensures { IsShown (record { bus = I2c; floor = 2000000 }) short_round protocol_request 0
+    ensures { IsShown (record { bus = I2c; floor = 2000000 }) short_round protocol_request 12 0
         (0x08 ∷ 0x00 ∷ 0x00 ∷ 0x00 ∷ 0x80 ∷ 0x00 ∷ 0x80 ∷ 0x00 ∷ 0x01 ∷ 0x00 ∷ 0x00 ∷ 0x00 ∷ []) }
 {}
