@@ -1,5 +1,5 @@
 -- An exchange on LPC is a send, and so is one with a changed byte.
-use Rattle.std.proofs.Common.{◌≡◌, refl, sym, ap, ◌∙◌, ℕ, suc, ◌+◌, true, List, [], ◌∷◌, ◌++◌, map, length, take, replicate, slice_index, append_assoc}
+use Rattle.std.proofs.Common.{◌≡◌, refl, sym, ap, ◌∙◌, ℕ, suc, ◌+◌, true, List, [], ◌∷◌, ◌++◌, map, length, replicate, slice_index, append_assoc}
 use Rattle.ec_types.specs.declared.bus.BusKind.TheVariants.{Lpc}
 use Rattle.ec_model.specs.declared.event.Access.TheVariants.{PortOut, PortIn}
 use Rattle.ec_model.specs.declared.event.Event.{Event}
@@ -7,10 +7,10 @@ use Rattle.ec_model.specs.declared.event.Event.TheVariants.{Access, Tick}
 use Rattle.ec_model.specs.declared.event.Entry.{Entry}
 use Rattle.ec_model.specs.declared.event.Entry.TheVariants.{Step, Mark}
 use Rattle.ec_model.specs.HostCalls.{HostCall, Did, Waited, calls_of, call_before, are_calls}
-use Rattle.ec_model.specs.Heard.{Reply, Bad, is_all_read, reads_on, heard_if, heard_with, port_writes, port_reads, spaced_reads}
+use Rattle.ec_model.specs.Heard.{Heard, Reply, Bad, is_all_read, reads_on, heard_if, heard_with, port_writes, port_reads, spaced_reads, waited_reads}
 use Rattle.ec_model.specs.SendLpc.{LpcWasServed, status_in}
 use Rattle.ec_model.specs.Send.{Send}
-use Rattle.ec_examples.specs.Sends.{hello_request, changed_lpc}
+use Rattle.ec_examples.specs.Sends.{hello_request, changed_lpc, changed_twice, changed_beside_a_reset}
 use Rattle.ec_examples.specs.Entries.{plain, written_ports, read_ports, lpc_asked, lpc_exchange, waited}
 
 -- the calls of one entry, before others
@@ -92,19 +92,39 @@ lpc_exchange-sent request response whole heard = (
   }),
 )
 
--- the response with a changed byte is read, and is none
-pub changed-sent : Send Lpc changed_lpc hello_request Bad
-changed-sent = (
-  refl,
+-- the calls of a HELLO whose response was seen so
+abbrev pub hello_calls : List ℕ → List HostCall
+hello_calls bytes = calls_of (lpc_asked hello_request) ++ waited_reads status_in (1 ∷ []) ++ Did (PortIn 0x200) 0 ∷ port_reads 0x800 bytes
+
+-- a HELLO whose response was seen so, and was heard so
+pub hello-sent : (entries : List Entry) (bytes : List ℕ) (heard : Heard) → are_calls entries ≡ true → calls_of entries ≡ hello_calls bytes
+    → is_all_read (reads_on 248 bytes) bytes ≡ true → heard ≡ heard_if (reads_on 248 bytes) (heard_with 0 bytes) → Send Lpc entries hello_request heard
+hello-sent entries bytes heard ends made whole heard_is = (
+  ends,
   LpcWasServed (record {
-    first = take 14 (calls_of changed_lpc);
+    first = calls_of (lpc_asked hello_request);
     statuses = 1 ∷ [];
     outcome = 0;
-    bytes = 0x03 ∷ 0x0F ∷ 0x00 ∷ 0x00 ∷ 0x04 ∷ 0x00 ∷ 0x00 ∷ 0x00 ∷ 0xD5 ∷ 0xC3 ∷ 0xB2 ∷ 0xA1 ∷ [];
+    bytes = bytes;
     asked = record { statuses = 0 ∷ []; gots = replicate 12 0; got = 0; idle = refl; each = refl; made = refl };
     idle = refl;
-    whole = refl;
-    made = refl;
-    heard_is = refl;
+    whole = whole;
+    made = made;
+    heard_is = heard_is;
   }),
 )
+
+-- the response with a changed byte is read, and is none
+pub changed-sent : Send Lpc changed_lpc hello_request Bad
+changed-sent = hello-sent changed_lpc (0x03 ∷ 0x0F ∷ 0x00 ∷ 0x00 ∷ 0x04 ∷ 0x00 ∷ 0x00 ∷ 0x00 ∷ 0xD5 ∷ 0xC3 ∷ 0xB2 ∷ 0xA1 ∷ []) Bad refl refl refl refl
+
+-- so is one that was cut short by a reset
+pub beside-sent : Send Lpc changed_beside_a_reset hello_request Bad
+beside-sent = hello-sent changed_beside_a_reset (0x03 ∷ 0x0F ∷ 0x00 ∷ 0x00 ∷ 0x04 ∷ 0x00 ∷ 0x00 ∷ 0x00 ∷ 0xD5 ∷ 0xC3 ∷ 0xB2 ∷ 0x00 ∷ []) Bad refl refl refl refl
+
+-- two changed bytes are read, and leave a response
+abbrev pub twice_bytes : List ℕ
+twice_bytes = 0x03 ∷ 0x0F ∷ 0x00 ∷ 0x00 ∷ 0x04 ∷ 0x00 ∷ 0x00 ∷ 0x00 ∷ 0xD5 ∷ 0xC3 ∷ 0xB2 ∷ 0xA0 ∷ []
+
+pub twice-sent : Send Lpc changed_twice hello_request (Reply twice_bytes)
+twice-sent = hello-sent changed_twice twice_bytes (Reply twice_bytes) refl refl refl refl

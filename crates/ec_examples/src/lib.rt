@@ -67,8 +67,9 @@ pub use questions::{
 };
 pub use rounds::{round_without_power, two_short_rounds, what_a_round_is_shown};
 pub use sends::{
-    changed_byte_over_lpc, changed_byte_over_spi, hello_over_i2c, hello_over_lpc, hello_over_spi,
-    more_than_one_changed_byte, reset_over_i2c, reset_over_lpc, reset_over_spi,
+    changed_byte_over_lpc, changed_byte_over_spi, colds, hello_over_i2c, hello_over_lpc,
+    hello_over_spi, more_than_one_changed_byte, reset_behind_a_send, reset_between_two_sends,
+    reset_over_i2c, reset_over_lpc, reset_over_spi, two_changed_bytes_over_lpc,
 };
 pub use spi::{deselected_spi, hello_on_spi, too_long_on_spi};
 pub use syncable::{
