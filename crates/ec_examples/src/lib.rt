@@ -24,8 +24,8 @@ pub use bench::{
     armed_cut_behind_a_write, armed_cut_in_the_second_of_three_pieces,
     armed_cut_replaced_and_disarmed, armed_events_that_are_due, changed_byte_at_a_wait,
     changed_byte_that_is_seen, cut_of_the_flash_itself, event_beside_armed_ones,
-    events_armed_behind_63_and_64, mark_of_a_line, script_of_four_lines,
-    two_events_and_a_changed_byte,
+    events_armed_behind_63_and_64, failed_erase_under_an_armed_cut, mark_of_a_line,
+    script_of_four_lines, two_events_and_a_changed_byte,
 };
 pub use checks::{
     bodies_by_their_version, bodies_of_another_length, checks_in_their_order,
