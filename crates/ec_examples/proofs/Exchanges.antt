@@ -19,7 +19,7 @@ call-append (Access access) meant seen calls more = refl
 call-append Tick meant seen calls more = refl
 call-append other meant seen calls more = refl
 
-calls_of-append : (first second : List Entry) → calls_of (first ++ second) ≡ calls_of first ++ calls_of second
+pub calls_of-append : (first second : List Entry) → calls_of (first ++ second) ≡ calls_of first ++ calls_of second
 calls_of-append [] second = refl
 calls_of-append (Step event answer meant seen hurt ∷ first) second =
     ap (call_before event meant seen) (calls_of-append first second) ∙ call-append event meant seen (calls_of first) (calls_of second)

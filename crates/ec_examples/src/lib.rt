@@ -65,7 +65,10 @@ pub use questions::{
     fixed_answers, pending_erase_is_shown, regions, tests_of_the_protocol, versions_of_commands,
     versions_of_the_images,
 };
-pub use rounds::{round_without_power, two_short_rounds, what_a_round_is_shown};
+pub use rounds::{
+    round_with_a_start_that_is_not_taken, round_without_power, two_short_rounds,
+    what_a_round_is_shown,
+};
 pub use sends::{
     changed_byte_over_lpc, changed_byte_over_spi, colds, hello_over_i2c, hello_over_lpc,
     hello_over_spi, more_than_one_changed_byte, reset_behind_a_send, reset_between_two_sends,
