@@ -1,46 +1,57 @@
--- A round on I2C that ends behind its first command.
-use Rattle.std.proofs.Common.{◌≡◌, refl, sym, subst, ℕ, true, List, [], ◌∷◌, ◌++◌, take}
+-- Rounds on I2C, by their first command.
+use Rattle.std.proofs.Common.{◌≡◌, refl, sym, subst, ap, ◌∙◌, ℕ, ◌==◌, Bool, true, false, ◌||◌, List, [], ◌∷◌, ◌++◌, take}
+use Rattle.std.specs.List.{list_any}
+use Rattle.std.proofs.lemmas.List.Folds.{list_any-append}
 use Rattle.ec_types.specs.declared.bus.BusKind.TheVariants.{I2c}
-use Rattle.ec_model.specs.HostCalls.{HostView, calls_of, view_after}
-use Rattle.ec_model.specs.Heard.{Heard, Reply}
-use Rattle.ec_model.specs.SendI2c.{I2cSend, I2cWasUnstarted, I2cWasUnwritten, I2cWasUnread, I2cWasServed}
+use Rattle.ec_model.specs.declared.event.Access.TheVariants.{I2cWrite}
+use Rattle.ec_model.specs.declared.event.Entry.{Entry}
+use Rattle.ec_model.specs.HostCalls.{HostCall, Did, HostView, calls_of, are_calls, view_after}
+use Rattle.ec_model.specs.Heard.{Reply}
+use Rattle.ec_model.specs.SendI2c.{I2cWasServed}
 use Rattle.ec_model.specs.Send.{Send}
-use Rattle.ec_model.specs.Asks.{Status, packet_of, Unsent, unsent, IsSent, AsksBy}
+use Rattle.ec_model.specs.Asks.{Status, Unsent, unsent, IsSent, AsksBy}
 use Rattle.ec_model.specs.Tries.{Tries, Answered, Final}
 use Rattle.ec_model.specs.Rounds.{AsksNoProtocol, IsRound, protocol_request as protocol_asked}
 use Rattle.ec_examples.specs.I2cExchanges.{stopped, i2c_exchange, protocol_request, protocol_response, short_round}
+use Rattle.ec_examples.proofs.Exchanges.{calls_of-append}
 
--- a list with something in it is not empty
-filled : {X : Type 0} (front : List X) (x : X) (rest : List X) → [] ≡ front ++ x ∷ rest → ⊥
-filled [] x rest same = cc
-filled (y ∷ front) x rest same = cc
+-- whether a call writes the checksum of GET_PROTOCOL_INFO
+abbrev pub is_protocol_sum : HostCall → Bool
+is_protocol_sum (Did (I2cWrite byte) got) = byte == 0xF2
+is_protocol_sum other = false
 
--- no calls send nothing
-none-sent : (packet : List ℕ) (heard : Heard) → I2cSend packet [] heard → ⊥
-none-sent packet heard (I2cWasUnstarted sent is) = filled [] _ _ sent.made
-none-sent packet heard (I2cWasUnwritten sent is) = filled [] _ _ sent.made
-none-sent packet heard (I2cWasUnread sent is) = filled sent.first _ _ sent.made
-none-sent packet heard (I2cWasServed sent) = filled _ _ [] sent.made
+-- a test that some middle part meets is met by the whole
+met : (before middle after : Bool) → middle ≡ true → (before || middle || after) ≡ false → ⊥
+met true middle after is none = cc
+met false true after is none = cc
+met false false after is none = cc
 
--- nothing asks for the protocol in no entries
-pub none-asked : AsksNoProtocol I2c []
-none-asked [] [] after heard parts sent = none-sent (packet_of protocol_asked) heard sent
-none-asked [] (entry ∷ asking) after heard parts sent = cc
-none-asked (entry ∷ before) asking after heard parts sent = cc
+-- where no call writes it, nothing asks for the protocol
+pub none-asked : (entries : List Entry) → list_any is_protocol_sum (calls_of entries) ≡ false → AsksNoProtocol I2c entries
+none-asked entries none before asked after parts asks =
+    met (list_any is_protocol_sum (calls_of before)) (list_any is_protocol_sum (calls_of asked)) (list_any is_protocol_sum (calls_of after))
+    (ap (list_any is_protocol_sum) asks.made)
+    (sym (ap (list_any is_protocol_sum) (ap calls_of parts ∙ calls_of-append (before ++ asked) after ∙ ap (λ (calls : List HostCall). calls ++ calls_of after) (calls_of-append before asked))
+    ∙ list_any-append is_protocol_sum (calls_of before ++ calls_of asked) (calls_of after)
+    ∙ ap (λ (found : Bool). found || list_any is_protocol_sum (calls_of after)) (list_any-append is_protocol_sum (calls_of before) (calls_of asked)))
+    ∙ none)
 
 -- the exchange is a send
 protocol-sent : Send I2c (i2c_exchange protocol_request protocol_response) protocol_request (Reply protocol_response)
-protocol-sent = I2cWasServed (record {
-  first = take 10 (calls_of (i2c_exchange protocol_request protocol_response));
-  outcome = 0;
-  size = 20;
-  bytes = protocol_response;
-  stopped = 0;
-  asked = record { made = refl };
-  whole = refl;
-  made = refl;
-  heard_is = refl;
-})
+protocol-sent = (
+  refl,
+  I2cWasServed (record {
+    first = take 10 (calls_of (i2c_exchange protocol_request protocol_response));
+    outcome = 0;
+    size = 20;
+    bytes = protocol_response;
+    stopped = 0;
+    asked = record { made = refl };
+    whole = refl;
+    made = refl;
+    heard_is = refl;
+  }),
+)
 
 -- what GET_PROTOCOL_INFO is answered
 abbrev pub told : List ℕ
@@ -74,21 +85,23 @@ protocol-tried floor view sent = (
   (refl, refl),
 )
 
--- a round of a controller that is on, with this room
-pub short-round : (floor spare : ℕ) → unsent (view_after (stopped 0) (record { on = true; spare = spare })) floor ≡ IsSent
-    → IsRound (record { bus = I2c; floor = floor }) (record { on = true; spare = spare }) short_round
-short-round floor spare sent =
+-- a round of a controller that is on, with this room, that goes on with these entries
+pub begun-round : (floor spare : ℕ) (rest : List Entry) → are_calls (short_round ++ rest) ≡ true → AsksNoProtocol I2c rest
+    → unsent (view_after (stopped 0) (record { on = true; spare = spare })) floor ≡ IsSent
+    → IsRound (record { bus = I2c; floor = floor }) (record { on = true; spare = spare }) (short_round ++ rest)
+begun-round floor spare rest calls no_more sent =
     record {
       quieting = stopped 0;
-      rest = i2c_exchange protocol_request protocol_response;
+      rest = i2c_exchange protocol_request protocol_response ++ rest;
+      calls = calls;
       parts = refl;
-      quiet = record { got = 0; made = refl };
+      quiet = (refl, record { got = 0; made = refl });
       begins = record {
         asking = i2c_exchange protocol_request protocol_response;
-        rest = [];
+        rest = rest;
         said = Answered 0 told;
         parts = refl;
         asked = protocol-tried floor (view_after (stopped 0) (record { on = true; spare = spare })) sent;
-        no_more = none-asked;
+        no_more = no_more;
       };
     }

@@ -28,6 +28,7 @@ turn-taken view response heard sent =
       asking = lpc_exchange comms_request response;
       end = got 4 (Reply response);
       parts = refl;
+      waits = refl;
       waited = refl;
       asked = subst (λ (why : Unsent). AsksBy why Lpc comms_asked 4 (lpc_exchange comms_request response) (got 4 (Reply response))) (sym sent) (asks comms_asked 4 response heard);
       turn_is = refl;

@@ -3,6 +3,8 @@ use Rattle.std.specs.Prelude.{ℕ, List, [], ◌∷◌, ◌++◌, map, length, s
 use Rattle.ec_model.specs.declared.event.Access.TheVariants.{I2cStartWrite, I2cStartRead, I2cWrite, I2cRead, I2cStop}
 use Rattle.ec_model.specs.declared.event.Event.TheVariants.{Access}
 use Rattle.ec_model.specs.declared.event.Entry.{Entry}
+use Rattle.ec_model.specs.declared.event.Entry.TheVariants.{Step}
+use Rattle.ec_model.specs.declared.event.Hurt.TheVariants.{Whole}
 use Rattle.ec_examples.specs.Entries.{plain}
 
 -- a stop, which brings I2C to rest
@@ -27,3 +29,19 @@ protocol_response =
 -- a round that ends behind its first command
 abbrev pub short_round : List Entry
 short_round = stopped 0 ++ i2c_exchange protocol_request protocol_response
+
+-- FLASH_INFO version 1, and its response
+abbrev pub info_request : List ℕ
+info_request = 0x03 ∷ 0xEC ∷ 0x10 ∷ 0x00 ∷ 0x01 ∷ 0x00 ∷ 0x00 ∷ 0x00 ∷ []
+
+abbrev pub info_response : List ℕ
+info_response =
+    0x03 ∷ 0x80 ∷ 0x00 ∷ 0x00 ∷ 0x18 ∷ 0x00 ∷ 0x00 ∷ 0x00 ∷ 0 ∷ 0 ∷ 1 ∷ 0 ∷ 4 ∷ 0 ∷ 0 ∷ 0 ∷ 0 ∷ 0x10 ∷ 0 ∷ 0 ∷ 0 ∷ 0x10 ∷ 0 ∷ 0 ∷ 64 ∷ 0 ∷ 0 ∷ 0 ∷ 0 ∷ 0 ∷ 0 ∷ 0 ∷ []
+
+-- a start that is seen as not taken, since its 0 arrives as 5, and the stop behind it
+abbrev pub untaken : List Entry
+untaken = Step (Access I2cStartWrite) 0 0 5 Whole ∷ stopped 0
+
+-- a round that goes on with FLASH_INFO, whose first start is seen so
+abbrev pub tried_round : List Entry
+tried_round = short_round ++ (untaken ++ i2c_exchange info_request info_response)

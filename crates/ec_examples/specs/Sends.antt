@@ -1,5 +1,5 @@
--- The entries of a HELLO on each bus.
-use Rattle.std.specs.Prelude.{ℕ, List, [], ◌∷◌, ◌++◌, map, replicate}
+-- The entries of a HELLO on each bus, and of a COLD.
+use Rattle.std.specs.Prelude.{ℕ, List, [], ◌∷◌, ◌++◌, take, map, replicate}
 use Rattle.ec_types.specs.declared.bus.BusKind.TheVariants.{Lpc, I2c, Spi}
 use Rattle.ec_model.specs.declared.event.Access.TheVariants.{PortIn, I2cStartWrite, I2cStartRead, I2cWrite, I2cRead, I2cStop, SpiSelect, SpiByte, SpiDeselect}
 use Rattle.ec_model.specs.declared.event.WorldReset.TheVariants.{Pin}
@@ -9,7 +9,7 @@ use Rattle.ec_model.specs.declared.event.Entry.{Entry}
 use Rattle.ec_model.specs.declared.event.Entry.TheVariants.{Step}
 use Rattle.ec_model.specs.declared.event.Hurt.TheVariants.{Whole}
 use Rattle.ec_examples.specs.Events.{powered, port_outs, port_ins, spi_bytes}
-use Rattle.ec_examples.specs.Entries.{plain, entries_of, lpc_asked, waited, read_ports}
+use Rattle.ec_examples.specs.Entries.{plain, entries_of, lpc_asked, lpc_exchange, waited, read_ports}
 
 -- HELLO with 0xA0B0C0D0
 abbrev pub hello_request : List ℕ
@@ -74,6 +74,39 @@ changed_spi =
     ++ plain (Access (SpiByte 0)) 0xFA ∷ waited ∷ Step (Access (SpiByte 0)) 0xEC 0 0xFA Whole ∷ waited ∷ plain (Access (SpiByte 0)) 0x03
     ∷ plain (Access SpiDeselect) 0 ∷ []
 
--- a changed byte, and a reset behind it
+-- and its last byte as 0xA0 and not 0xA1, so that the sum is right
+abbrev pub changed_twice : List Entry
+changed_twice = take 28 changed_lpc ++ Step (Access (PortIn 0x80B)) 0xA1 0 0xA0 Whole ∷ []
+
+-- a changed byte, and a reset before the last read, which gets 0 then
 abbrev pub changed_beside_a_reset : List Entry
-changed_beside_a_reset = changed_lpc ++ plain reset_event 0 ∷ []
+changed_beside_a_reset = take 28 changed_lpc ++ plain reset_event 0 ∷ plain (Access (PortIn 0x80B)) 0 ∷ []
+
+-- a changed byte, and a reset behind the last read
+abbrev pub changed_then_reset : List Entry
+changed_then_reset = changed_lpc ++ plain reset_event 0 ∷ []
+
+-- a send before which a reset falls
+abbrev pub hello_behind_a_reset : List Entry
+hello_behind_a_reset = plain reset_event 0 ∷ lpc_exchange hello_request hello_response
+
+-- a COLD
+abbrev pub cold_request : List ℕ
+cold_request = 0x03 ∷ 0x25 ∷ 0xD2 ∷ 0x00 ∷ 0x00 ∷ 0x00 ∷ 0x02 ∷ 0x00 ∷ 0x04 ∷ 0x00 ∷ []
+
+-- on LPC the controller restarts in the wait
+abbrev pub cold_lpc : List Entry
+cold_lpc = lpc_asked cold_request ++ waited ∷ []
+
+-- on I2C it restarts in the start of the read
+abbrev pub cold_i2c : List Entry
+cold_i2c =
+    plain (Access I2cStartWrite) 0 ∷ [] ++ map (λ byte. plain (Access (I2cWrite byte)) 0) (0xDA ∷ cold_request)
+    ++ plain (Access I2cStartRead) 0xFF ∷ plain (Access I2cStop) 0 ∷ []
+
+-- on SPI it restarts in the wait
+abbrev pub cold_spi : List Entry
+cold_spi =
+    plain (Access SpiSelect) 0 ∷ plain (Access (SpiByte 0x03)) 0xF8 ∷ []
+    ++ map (λ byte. plain (Access (SpiByte byte)) 0xF9) (0x25 ∷ 0xD2 ∷ 0x00 ∷ 0x00 ∷ 0x00 ∷ 0x02 ∷ 0x00 ∷ 0x04 ∷ 0x00 ∷ [])
+    ++ waited ∷ plain (Access SpiDeselect) 0 ∷ []

@@ -1,19 +1,19 @@
 // Calls on the bench with something armed.
-ghost use Rattle.std.specs.Prelude.{◌≡◌, true, false, [], ◌∷◌, ◌++◌, replicate, Some, None};
+ghost use Rattle.std.specs.Prelude.{◌≡◌, ℕ, true, false, [], ◌∷◌, ◌++◌, replicate, Option, Some, None};
 ghost use Rattle.ec_types.specs.declared.bus.BusKind.TheVariants.{Lpc};
 ghost use Rattle.ec_model.specs.declared.event.Access.TheVariants.{PortOut, PortIn};
 ghost use Rattle.ec_model.specs.declared.event.WorldReset.TheVariants.{Pin as ByPin};
 ghost use Rattle.ec_model.specs.declared.event.WorldEvent.TheVariants.{Reset, Power, Pin, Byte};
 ghost use Rattle.ec_model.specs.declared.event.Event.TheVariants.{Access, Tick, Reset as ResetEvent, Power as PowerEvent, Pin as PinEvent};
 ghost use Rattle.ec_model.specs.declared.event.Entry.TheVariants.{Step, Mark};
-ghost use Rattle.ec_model.specs.declared.event.Hurt.TheVariants.{Whole, Cut};
+ghost use Rattle.ec_model.specs.declared.event.Hurt.TheVariants.{Whole, Failed, Cut};
 ghost use Rattle.ec_model.specs.Table.{off_table};
 ghost use Rattle.ec_model.specs.WholeStep.{stepped};
-ghost use Rattle.ec_model.specs.Bench.{Accesses, Waits, Happens, Marks, Arms, ArmsCut, due_events, still_armed, byte_among, unarmed};
+ghost use Rattle.ec_model.specs.Bench.{ArmedCut, Accesses, Waits, Happens, Marks, Arms, ArmsCut, due_events, still_armed, byte_among, unarmed};
 ghost use Rattle.ec_model.specs.Played.{Played, PlayedAll};
 ghost use Rattle.ec_examples.specs.Flashes.{e64};
 ghost use Rattle.ec_examples.specs.Events.{powered, table_after};
-ghost use Rattle.ec_examples.specs.Waiting.{write_waits, torn_in_the_second};
+ghost use Rattle.ec_examples.specs.Waiting.{write_waits, protect_waits, protect_failed, torn_in_the_second};
 ghost use Rattle.ec_examples.specs.Entries.{plain, waited};
 
 /// What falls before a call: what is armed for it, in the order of arming; what is armed for later comes one call nearer.
@@ -97,6 +97,15 @@ pub fn cut_of_the_flash_itself()
     ensures counted { Played (unarmed write_waits 0 0) Waits (Step Tick 0 0 0 Cut ∷ []) (unarmed (off_table torn_in_the_second true Lpc) 0 1) }
     ensures uncounted { ¬ Played (unarmed write_waits 0 0) Waits (Step Tick 0 0 0 Cut ∷ [])
         (unarmed (off_table torn_in_the_second true Lpc) 0 0) }
+{}
+
+/// An erase that fails counts as an operation, also where it leaves the block as it was: the hash that it dropped shows that it was
+/// begun. So a cut that was armed at the second operation comes one nearer, and one at the first would have fallen there.
+pub fn failed_erase_under_an_armed_cut()
+    ensures second { Played (record (unarmed protect_waits 0 0) { cut = Some (record { left = 2; torn = [] }) }) Waits
+        (Step Tick 0 0 0 Failed ∷ []) (record (unarmed protect_failed 1 0) { cut = Some (record { left = 1; torn = [] }) }) }
+    ensures first { (cut : Option ArmedCut) (faults cuts : ℕ) → ¬ Played (record (unarmed protect_waits 0 0) { cut = Some (record { left = 1; torn = [] }) }) Waits
+        (Step Tick 0 0 0 Failed ∷ []) (record (unarmed protect_failed faults cuts) { cut = cut }) }
 {}
 
 /// A new cut takes the place of the armed one, and 0 disarms it, so that the write passes.

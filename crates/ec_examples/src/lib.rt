@@ -24,8 +24,8 @@ pub use bench::{
     armed_cut_behind_a_write, armed_cut_in_the_second_of_three_pieces,
     armed_cut_replaced_and_disarmed, armed_events_that_are_due, changed_byte_at_a_wait,
     changed_byte_that_is_seen, cut_of_the_flash_itself, event_beside_armed_ones,
-    events_armed_behind_63_and_64, mark_of_a_line, script_of_four_lines,
-    two_events_and_a_changed_byte,
+    events_armed_behind_63_and_64, failed_erase_under_an_armed_cut, mark_of_a_line,
+    script_of_four_lines, two_events_and_a_changed_byte,
 };
 pub use checks::{
     bodies_by_their_version, bodies_of_another_length, checks_in_their_order,
@@ -65,10 +65,14 @@ pub use questions::{
     fixed_answers, pending_erase_is_shown, regions, tests_of_the_protocol, versions_of_commands,
     versions_of_the_images,
 };
-pub use rounds::{round_without_power, two_short_rounds, what_a_round_is_shown};
+pub use rounds::{
+    round_with_a_start_that_is_not_taken, round_without_power, two_short_rounds,
+    what_a_round_is_shown,
+};
 pub use sends::{
-    changed_byte_over_lpc, changed_byte_over_spi, hello_over_i2c, hello_over_lpc, hello_over_spi,
-    more_than_one_changed_byte, reset_over_i2c, reset_over_lpc, reset_over_spi,
+    changed_byte_over_lpc, changed_byte_over_spi, colds, hello_over_i2c, hello_over_lpc,
+    hello_over_spi, more_than_one_changed_byte, reset_behind_a_send, reset_between_two_sends,
+    reset_over_i2c, reset_over_lpc, reset_over_spi, two_changed_bytes_over_lpc,
 };
 pub use spi::{deselected_spi, hello_on_spi, too_long_on_spi};
 pub use syncable::{

@@ -1,8 +1,11 @@
 // The rounds of a sync, on I2C.
-ghost use Rattle.std.specs.Prelude.{true, false, [], ◌∷◌, ◌++◌};
+ghost use Rattle.std.specs.Prelude.{◌≡◌, ℕ, true, false, List, [], ◌∷◌, ◌++◌};
 ghost use Rattle.ec_types.specs.declared.bus.BusKind.TheVariants.{I2c};
+ghost use Rattle.ec_model.specs.Packet.{request_packet, is_response};
+ghost use Rattle.ec_model.specs.Heard.{Silent};
+ghost use Rattle.ec_model.specs.Send.{Send};
 ghost use Rattle.ec_model.specs.Rounds.{Rounds, IsShown, protocol_request};
-ghost use Rattle.ec_examples.specs.I2cExchanges.{stopped, short_round};
+ghost use Rattle.ec_examples.specs.I2cExchanges.{stopped, short_round, info_request, info_response, untaken, tried_round};
 
 /// With the power off a sync is one round: a stop, which has 0xFF.
 pub fn round_without_power()
@@ -14,8 +17,17 @@ pub fn two_short_rounds()
     ensures { Rounds I2c (record { on = true; spare = 3000000 }) (short_round ++ short_round) (short_round ∷ short_round ∷ []) }
 {}
 
-/// Such a round is shown the limits of the bus.
+/// A start that is seen as not taken is a send of any packet, and puts none on the bus. So a round whose FLASH_INFO is tried once
+/// more behind such a start asks GET_PROTOCOL_INFO once, and is one round.
+pub fn round_with_a_start_that_is_not_taken()
+    ensures untaken { (packet : List ℕ) → Send I2c untaken packet Silent }
+    ensures info { request_packet 0x10 1 [] ≡ info_request }
+    ensures response { is_response info_response ≡ true }
+    ensures round { Rounds I2c (record { on = true; spare = 3000000 }) tried_round (tried_round ∷ []) }
+{}
+
+/// A short round is shown the limits of the bus.
 pub fn what_a_round_is_shown()
-    ensures { IsShown (record { bus = I2c; floor = 2000000 }) short_round protocol_request 0
+    ensures { IsShown (record { bus = I2c; floor = 2000000 }) short_round protocol_request 12 0
         (0x08 ∷ 0x00 ∷ 0x00 ∷ 0x00 ∷ 0x80 ∷ 0x00 ∷ 0x80 ∷ 0x00 ∷ 0x01 ∷ 0x00 ∷ 0x00 ∷ 0x00 ∷ []) }
 {}

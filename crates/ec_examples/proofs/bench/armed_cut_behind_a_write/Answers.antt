@@ -21,8 +21,7 @@ returns c = record {
     refl,
     record {
       begun = 3;
-      step = refl;
-      is_begun = refl;
+      step = (refl, refl);
       falls = (omega arith, λ same. absurd (apart same));
       cause = tt;
       cut_is = refl;

@@ -19,8 +19,7 @@ returns c = record {
     refl,
     record {
       begun = 2;
-      step = record { place = 1; flash = torn_in_the_second; stops = record { stopped = Program 0x8040 (replicate 64 2); is_there = refl; torn = record { same_length = refl; before = refl; after = refl } }; leaves = refl };
-      is_begun = (1, refl, record { stopped = Program 0x8040 (replicate 64 2); is_there = refl; torn = record { same_length = refl; before = refl; after = refl } });
+      step = (record { place = 1; flash = torn_in_the_second; stops = record { stopped = Program 0x8040 (replicate 64 2); is_there = refl; torn = record { same_length = refl; before = refl; after = refl } }; leaves = refl }, refl);
       falls = (omega arith, λ same. (refl, record { stopped = Program 0x8040 (replicate 64 2); is_there = refl; leaves = inl refl }));
       cause = inl refl;
       cut_is = refl;

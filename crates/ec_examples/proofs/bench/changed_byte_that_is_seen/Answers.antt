@@ -15,5 +15,5 @@ returns c = record {
   middle = record { table = powered e64 Lpc; cut = None; armed = []; faults = 0; cuts = 0 };
   parts = refl;
   events = refl;
-  own_is = (refl, refl, refl, record { begun = 0; step = refl; is_begun = refl; falls = tt; cause = tt; cut_is = refl; armed_is = refl; faults_later = omega arith; cuts_later = omega arith });
+  own_is = (refl, refl, refl, record { begun = 0; step = (refl, refl); falls = tt; cause = tt; cut_is = refl; armed_is = refl; faults_later = omega arith; cuts_later = omega arith });
 }

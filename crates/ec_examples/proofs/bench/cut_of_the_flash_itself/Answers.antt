@@ -1,15 +1,15 @@
-use Rattle.std.proofs.Common.{◌≡◌, refl, subst, true, [], ◌∷◌, ◌++◌, List, replicate, ◌⊎◌, inl, inr, arith}
+use Rattle.std.proofs.Common.{refl, true, [], replicate, None, ◌⊎◌, inl, inr, arith}
 use Rattle.ec_types.specs.declared.bus.BusKind.TheVariants.{Lpc}
 use Rattle.flash_dev.specs.Counts.{Rose}
 use Rattle.ec_model.specs.declared.event.Event.TheVariants.{Tick}
-use Rattle.ec_model.specs.declared.event.Entry.{Entry}
 use Rattle.ec_model.specs.declared.event.Entry.TheVariants.{Step}
 use Rattle.ec_model.specs.declared.event.Hurt.TheVariants.{Cut}
 use Rattle.ec_model.specs.Operations.{Program}
 use Rattle.ec_model.specs.Table.{Table, off_table}
-use Rattle.ec_model.specs.Bench.{Bench, unarmed}
-use Rattle.ec_model.specs.Played.{PlaysEntry, PlaysEvents, PlaysWait}
+use Rattle.ec_model.specs.Bench.{unarmed}
+use Rattle.ec_model.specs.Played.{PlaysEntry}
 use Rattle.ec_examples.specs.Waiting.{write_waits, torn_in_the_second}
+use Rattle.ec_examples.proofs.BenchLemmas.{wait-entry}
 use Rattle.ec_examples.proofs.bench.cut_of_the_flash_itself.Goals as goal
 
 pub returns-clause-counted : goal.returns-clause-counted
@@ -25,8 +25,7 @@ returns-clause-counted c = record {
     refl,
     record {
       begun = 2;
-      step = record { place = 1; flash = torn_in_the_second; stops = record { stopped = Program 0x8040 (replicate 64 2); is_there = refl; torn = record { same_length = refl; before = refl; after = refl } }; leaves = refl };
-      is_begun = (1, refl, record { stopped = Program 0x8040 (replicate 64 2); is_there = refl; torn = record { same_length = refl; before = refl; after = refl } });
+      step = (record { place = 1; flash = torn_in_the_second; stops = record { stopped = Program 0x8040 (replicate 64 2); is_there = refl; torn = record { same_length = refl; before = refl; after = refl } }; leaves = refl }, refl);
       falls = tt;
       cause = inr (omega arith);
       cut_is = refl;
@@ -44,15 +43,5 @@ causeless old after plays = refuse plays.cause where
   refuse (inl never) = never
   refuse (inr rose) = omega (arith, rose)
 
--- nor has the wait that it would stand in, where no event falls before it
-waits : (old after : Table) (world : List Entry) (own : Entry) (middle : Bench) → Step Tick 0 0 0 Cut ∷ [] ≡ world ++ own ∷ [] → PlaysEvents (unarmed old 0 0) [] world middle → PlaysWait [] middle own (unarmed after 0 0) → ⊥
-waits old after [] own middle parts same plays =
-    let moved = subst (λ (bench : Bench). PlaysWait [] bench own (unarmed after 0 0)) same plays in
-    let entry = subst (λ (entry : Entry). PlaysWait [] (unarmed old 0 0) entry (unarmed after 0 0)) (only own parts) moved in
-    causeless old after entry.3 where
-      only : (other : Entry) → Step Tick 0 0 0 Cut ∷ [] ≡ other ∷ [] → other ≡ Step Tick 0 0 0 Cut
-      only other parts = cc
-waits old after (entry ∷ world) own middle parts events plays = absurd events
-
 pub returns-clause-uncounted : goal.returns-clause-uncounted
-returns-clause-uncounted c = λ plays. waits write_waits (off_table torn_in_the_second true Lpc) plays.world plays.own plays.middle plays.parts plays.events plays.own_is
+returns-clause-uncounted c = λ plays. causeless write_waits (off_table torn_in_the_second true Lpc) (wait-entry write_waits None Cut (unarmed (off_table torn_in_the_second true Lpc) 0 0) plays)

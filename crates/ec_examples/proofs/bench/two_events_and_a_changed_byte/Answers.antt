@@ -22,6 +22,6 @@ returns c = record {
   own = Step (Access (PortOut 0x800 0x77)) 0 0x11 0 Whole;
   middle = between;
   parts = refl;
-  events = (between, refl, refl, refl, record { begun = 0; step = refl; is_begun = refl; falls = tt; cause = tt; cut_is = refl; armed_is = refl; faults_later = omega arith; cuts_later = omega arith }, refl);
-  own_is = (refl, refl, refl, record { begun = 0; step = refl; is_begun = refl; falls = tt; cause = tt; cut_is = refl; armed_is = refl; faults_later = omega arith; cuts_later = omega arith });
+  events = (between, refl, refl, refl, record { begun = 0; step = (refl, refl); falls = tt; cause = tt; cut_is = refl; armed_is = refl; faults_later = omega arith; cuts_later = omega arith }, refl);
+  own_is = (refl, refl, refl, record { begun = 0; step = (refl, refl); falls = tt; cause = tt; cut_is = refl; armed_is = refl; faults_later = omega arith; cuts_later = omega arith });
 }

@@ -6,5 +6,5 @@ pub returns : goal.returns
 returns c = record {
   few = omega arith;
   whole = refl;
-  each = (record { quieting = stopped 0xFF; rest = []; parts = refl; quiet = record { got = 0xFF; made = refl }; begins = refl }, tt);
+  each = (record { quieting = stopped 0xFF; rest = []; calls = refl; parts = refl; quiet = (refl, record { got = 0xFF; made = refl }); begins = refl }, tt);
 }

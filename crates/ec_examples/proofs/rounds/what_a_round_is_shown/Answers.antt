@@ -9,7 +9,6 @@ returns c = record {
   asking = i2c_exchange protocol_request protocol_response;
   after = [];
   view = record { on = true; spare = 3000000 };
-  want = 12;
   parts = refl;
   asked = protocol-tried 2000000 (record { on = true; spare = 3000000 }) refl;
 }

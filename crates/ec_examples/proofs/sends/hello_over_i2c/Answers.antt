@@ -7,15 +7,18 @@ use Rattle.ec_examples.proofs.sends.hello_over_i2c.Goals as goal
 pub returns : goal.returns
 returns c = λ flash. record {
   undisturbed = refl;
-  sent = I2cWasServed (record {
-    first = take 14 (calls_of (hello_i2c flash));
-    outcome = 0;
-    size = 12;
-    bytes = hello_response;
-    stopped = 0;
-    asked = record { made = refl };
-    whole = refl;
-    made = refl;
-    heard_is = refl;
-  });
+  sent = (
+    refl,
+    I2cWasServed (record {
+      first = take 14 (calls_of (hello_i2c flash));
+      outcome = 0;
+      size = 12;
+      bytes = hello_response;
+      stopped = 0;
+      asked = record { made = refl };
+      whole = refl;
+      made = refl;
+      heard_is = refl;
+    }),
+  );
 }

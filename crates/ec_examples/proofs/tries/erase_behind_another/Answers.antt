@@ -1,7 +1,7 @@
 use Rattle.std.proofs.Common.{refl, [], ◌++◌}
 use Rattle.ec_model.specs.HostCalls.{view_after}
 use Rattle.ec_model.specs.Asks.{Status}
-use Rattle.ec_model.specs.Polls.{Pending, Ends, Idle, AskedThen}
+use Rattle.ec_model.specs.Polls.{Pending, Ends, Idle}
 use Rattle.ec_model.specs.Tries.{Answered, Final, resend_request as resend_asked}
 use Rattle.ec_examples.specs.Tries.{turn, pending, none_pending, with_room, erase_request, resend_request, erase_asked, erase_poll, busy, in_progress, success}
 use Rattle.ec_examples.specs.Entries.{lpc_exchange}
@@ -26,21 +26,23 @@ returns c = (
       told = Status 16 [];
       parts = refl;
       asked = asks erase_asked 0 busy (record { whole = refl; heard = refl });
-      again = AskedThen (record {
+      again = record {
         polling = turn none_pending;
-        asking = lpc_exchange erase_request in_progress;
+        rest = lpc_exchange erase_request in_progress;
+        reached = Idle;
         parts = refl;
         polled = (turn none_pending, [], Ends Idle, refl, turn-taken (view_after (lpc_exchange erase_request busy) (with_room 200000)) none_pending (record { whole = refl; heard = refl }) refl, (refl, refl));
-        asked = asks erase_asked 0 in_progress (record { whole = refl; heard = refl });
-      });
+        leads = asks erase_asked 0 in_progress (record { whole = refl; heard = refl });
+      };
     };
-    resent = AskedThen (record {
+    resent = record {
       polling = erase_poll;
-      asking = lpc_exchange resend_request success;
+      rest = lpc_exchange resend_request success;
+      reached = Idle;
       parts = refl;
       polled = (turn pending, turn none_pending, Pending, refl, turn-taken (view_after (lpc_exchange erase_request busy ++ (turn none_pending ++ lpc_exchange erase_request in_progress)) (with_room 200000)) pending (record { whole = refl; heard = refl }) refl, (turn none_pending, [], Ends Idle, refl, turn-taken (view_after (turn pending) (view_after (lpc_exchange erase_request busy ++ (turn none_pending ++ lpc_exchange erase_request in_progress)) (with_room 200000))) none_pending (record { whole = refl; heard = refl }) refl, (refl, refl)));
-      asked = asks resend_asked 0 success (record { whole = refl; heard = refl });
-    });
+      leads = asks resend_asked 0 success (record { whole = refl; heard = refl });
+    };
     end_is = refl;
   },
   (refl, refl),
