@@ -5,6 +5,7 @@ ghost use Rattle.ec_model.specs.Upset.{is_cut_entry};
 ghost use Rattle.ec_wire.specs.Calls.{RoseBy, is_failed_entry};
 ghost use Rattle.ecbench.specs.Endings.{EndsAsSeen, EndsUndisturbed, RunsTo, KeepsRo, RunsGuardedTo, NothingFailed};
 ghost use Rattle.ecbench.specs.Statuses.{exit_status};
+ghost use Rattle.ecbench.specs.Serving.{exit_of};
 
 use crate::serving::drive;
 use crate::word::{Word, are_words};
@@ -14,6 +15,7 @@ use bus_lpc::Lpc;
 use ec_core::Ec;
 use ec_types::Why;
 use ec_wire::Journal;
+use ectool_lines::ToolErr;
 use flash_dev::{FlashDev, Geometry};
 use std::alloc::Global;
 use thiserror::Error;
@@ -61,6 +63,17 @@ impl Exit {
             Exit::SinkFault => 6,
             Exit::NoMemory => 8,
             Exit::ScriptTooLong => 9,
+        }
+    }
+}
+
+impl From<ToolErr> for Exit {
+    ghost from_gives = { λ error exit. exit ≡ exit_of error };
+
+    fn from(error: ToolErr) -> Exit {
+        match error {
+            ToolErr::Sink => Exit::SinkFault,
+            ToolErr::NoMemory => Exit::NoMemory,
         }
     }
 }
