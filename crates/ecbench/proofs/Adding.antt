@@ -19,7 +19,7 @@ use Rattle.ecbench.specs.declared.run.Exit.{Exit}
 use Rattle.ecbench.specs.declared.run.Exit.TheVariants.{Done, BadWords, BadFlash, BadLine, SourceFault, SinkFault, NoMemory, ScriptTooLong}
 use Rattle.ecbench.specs.Lines.{Happens, Makes, deed_of, DoesDeed, WasCarried, HasHappened, HasMade}
 use Rattle.ecbench.specs.Endings.{seen}
-use Rattle.ecbench.specs.Serving.{MarksLine, CarriesLine, HappensLine, HappensMarked, MakesLine, MakesMarked, DoesLine, Carried, Happened, Made, ServesLine, ServesEvent, ServesRaw}
+use Rattle.ecbench.specs.Serving.{MarksLine, CarriesLine, HappensLine, HappensMarked, MakesMarked, DoesLine, Carried, Happened, Made, ServesLine, ServesEvent, ServesRaw}
 
 -- the same from another room
 extends-spare : (spare : ℕ) (added : List Entry) (old new : WireView) → Extends added (with_spare spare old) new → Extends added old new
@@ -84,11 +84,11 @@ happened-adds number line text old new happened said =
       });
     }
 
-made-adds : (number : ℕ) (line text words : List ℕ) (old new : WireView) → old.armed ≡ false → MakesLine number line words old new → text ≡ printed words → LineAdds number line text old new
-made-adds number line text words old new disarmed line_makes said =
-    let marked = line_makes.marked in
-    let mark = marks-extends number old marked line_makes.marks in
-    let makes = line_makes.makes in
+made-adds : (number : ℕ) (line text words : List ℕ) (raw : Raw) (old new : WireView) → old.armed ≡ false → deed_of line ≡ Ok (Makes raw) → MakesMarked number raw words old new → text ≡ printed words → LineAdds number line text old new
+made-adds number line text words raw old new disarmed wants behind said =
+    let marked = behind.marked in
+    let mark = marks-extends number old marked behind.marks in
+    let makes = behind.makes in
     let made = makes.made in
     let quiet = made.grows.quiet (mark.armed disarmed) in
     record {
@@ -96,11 +96,11 @@ made-adds number line text words old new disarmed line_makes said =
       extends = extends-then (Mark number ∷ []) made.added old marked new mark
           (extends-spare makes.spare made.added marked new (extends-grows made.added (with_spare makes.spare marked) new made.grows));
       does = HasMade (record {
-        raw = line_makes.raw;
+        raw = raw;
         calls = makes.calls;
         words = words;
         own = made.added;
-        wants = line_makes.wants;
+        wants = wants;
         entries_are = refl;
         alone = quiet.no_event;
         unchanged = quiet.no_byte;
@@ -113,7 +113,7 @@ made-adds number line text words old new disarmed line_makes said =
 pub line-adds : (number : ℕ) (line text : List ℕ) (old new : WireView) → old.bus ≡ Lpc → old.armed ≡ false → DoesLine number line text old new → LineAdds number line text old new
 line-adds number line text old new lpc disarmed (Carried carries) = carried-adds number line text old new lpc disarmed carries
 line-adds number line text old new lpc disarmed (Happened happened said) = happened-adds number line text old new happened said
-line-adds number line text old new lpc disarmed (Made words makes said) = made-adds number line text words old new disarmed makes said
+line-adds number line text old new lpc disarmed (Made raw words wants makes said) = made-adds number line text words raw old new disarmed wants makes said
 
 -- an event of the world, for a line that wants it
 pub event-line : (number : ℕ) (line : List ℕ) (happened : WorldEvent) (event : Event) (old new : WireView) → deed_of line ≡ Ok (Happens event) → ((other : Event) → IsEvent happened other → other ≡ event) → HappensMarked number happened old new → HappensLine number line old new
@@ -142,15 +142,10 @@ event-serves (Err (BadLine at reason)) number line happened event old new before
 event-serves (Err SourceFault) number line happened event old new before after wants same never = absurd never
 event-serves (Err ScriptTooLong) number line happened event old new before after wants same never = absurd never
 
--- calls of the host, for a line that wants them
-raw-line : (number : ℕ) (line words : List ℕ) (raw : Raw) (old new : WireView) → deed_of line ≡ Ok (Makes raw) → MakesMarked number raw words old new → MakesLine number line words old new
-raw-line number line words raw old new wants marked =
-    record { raw = raw; wants = wants; marked = marked.marked; marks = marked.marks; makes = marked.makes }
-
 -- what was done with calls of the host, for a line that wants them
 pub raw-serves : (result : Result (Unit {0}) Exit) (number : ℕ) (line : List ℕ) (raw : Raw) (old new : WireView) (before after : Option (List ℕ)) → deed_of line ≡ Ok (Makes raw) → ServesRaw result number raw old new before after → ServesLine result number line old new before after
-raw-serves (Ok done) number line raw old new before after wants (words, marked, said) = inr (printed words, Made words (raw-line number line words raw old new wants marked) refl, said)
-raw-serves (Err SinkFault) number line raw old new before after wants (words, marked, said) = (printed words, Made words (raw-line number line words raw old new wants marked) refl, said)
+raw-serves (Ok done) number line raw old new before after wants (words, marked, said) = inr (printed words, Made raw words wants marked refl, said)
+raw-serves (Err SinkFault) number line raw old new before after wants (words, marked, said) = (printed words, Made raw words wants marked refl, said)
 raw-serves (Err NoMemory) number line raw old new before after wants (marked, unsaid) = (marked, unsaid)
 raw-serves (Err Done) number line raw old new before after wants never = absurd never
 raw-serves (Err BadWords) number line raw old new before after wants never = absurd never

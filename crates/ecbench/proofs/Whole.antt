@@ -9,13 +9,13 @@ use Rattle.ec_model.specs.declared.event.Entry.{Entry}
 use Rattle.ec_model.specs.Table.{Table, off_table}
 use Rattle.ec_model.specs.Guarded.{guarded_bytes}
 use Rattle.ec_model.specs.Upset.{is_cut_entry}
-use Rattle.ec_model.proofs.RunLaws.{run-stays}
+use Rattle.ec_model.proofs.RunLaws.{run-stays, run-guards}
 use Rattle.ec_wire.specs.Calls.{RunsAlong, RoseBy, is_failed_entry}
 use Rattle.ec_wire.specs.Journals.{JournalView}
 use Rattle.ec_core.specs.View.{EcView}
 use Rattle.bench_wire.specs.BenchView.{BenchView, wire_view}
 use Rattle.ecbench.specs.declared.run.Exit.{Exit}
-use Rattle.ecbench.specs.Endings.{IsStarted, EndsAsSeen, EndsUndisturbed, RunsTo, KeepsRo, NothingFailed}
+use Rattle.ecbench.specs.Endings.{IsStarted, EndsAsSeen, EndsUndisturbed, RunsTo, KeepsRo, RunsGuardedTo, NothingFailed}
 use Rattle.ecbench.specs.Serving.{Drives}
 use Rattle.ecbench.proofs.Powering.{Grew, drives-grew, drives-seen, drives-undisturbed}
 
@@ -44,6 +44,19 @@ keeps-run entries (Some before) None sized runs = absurd runs
 keeps-run entries (Some before) (Some after) sized (last, run, same) = λ locked keeps.
     ap guarded_bytes (sym same)
     ∙ (run-stays (off_table before true Lpc) entries last (record { size = sized; power = tt }) (record { pin = refl; stored = locked; locked = refl }) keeps run).bytes
+
+-- no entries, along which RO is guarded
+pub guarded-none : (held : Option (List ℕ)) → RunsGuardedTo [] held held
+guarded-none None = tt
+guarded-none (Some bytes) = (off_table bytes true Lpc, refl, refl)
+
+-- along a run RO is guarded in each entry
+pub guarded-run : (entries : List Entry) (came left : Option (List ℕ)) → IfSome came (λ bytes. is_flash_size (length bytes) ≡ true) → RunsTo entries came left → RunsGuardedTo entries came left
+guarded-run entries None None sized runs = tt
+guarded-run entries None (Some after) sized runs = absurd runs
+guarded-run entries (Some before) None sized runs = absurd runs
+guarded-run entries (Some before) (Some after) sized (last, run, same) =
+    (last, run-guards (off_table before true Lpc) entries last (record { size = sized; power = tt }) run, same)
 
 -- a bench that is off, with the flash as it came
 pub record Opens (came : DeviceView) (bench : BenchView) : Type 0 where
@@ -130,4 +143,11 @@ pub run-keeps : (exit : Exit) (came left : DeviceView) (bench after : BenchView)
     Drives exit (wire_view Lpc bench) (wire_view Lpc after) script rest before printed → KeepsRo journal.entries came.held left.held
 run-keeps exit came left bench after journal script rest before printed whole allowed opened hands drives =
     keeps-run journal.entries came.held left.held (told-allowed came.held came.extent whole allowed)
+    (run-runs exit came left bench after journal script rest before printed opened hands drives)
+
+-- RO is guarded in each entry of the journal
+pub run-guarded : (exit : Exit) (came left : DeviceView) (bench after : BenchView) (journal : JournalView) (script rest before printed : Option (List ℕ)) → ((bytes : List ℕ) → came.held ≡ Some bytes → length bytes ≡ came.extent) → is_flash_size came.extent ≡ true → Opens came bench → HandsBack after left journal →
+    Drives exit (wire_view Lpc bench) (wire_view Lpc after) script rest before printed → RunsGuardedTo journal.entries came.held left.held
+run-guarded exit came left bench after journal script rest before printed whole allowed opened hands drives =
+    guarded-run journal.entries came.held left.held (told-allowed came.held came.extent whole allowed)
     (run-runs exit came left bench after journal script rest before printed opened hands drives)

@@ -14,7 +14,7 @@ use Rattle.ec_model.specs.declared.event.Event.{Event}
 use Rattle.ec_model.specs.Table.{Table}
 use Rattle.ec_model.specs.Run.{IsRun, opening}
 use Rattle.ec_model.specs.Stored.{stored}
-use Rattle.ec_model.specs.Guarded.{KeepsPin, guarded_bytes}
+use Rattle.ec_model.specs.Guarded.{KeepsPin, RunsGuarded, guarded_bytes}
 use Rattle.ec_model.specs.declared.event.Entry.{Entry}
 use Rattle.ec_model.specs.declared.event.Entry.TheVariants.{Step}
 use Rattle.ec_model.specs.declared.event.Event.TheVariants.{Power}
@@ -127,3 +127,8 @@ RunsTo entries = Changes (λ before after. (last : Table) × IsRun (opening befo
 abbrev pub KeepsRo : List Entry → Option (List ℕ) → Option (List ℕ) → Type 0
 KeepsRo entries =
     Changes (λ before after. IsTrue (stored before).ro → KeepsPin entries → guarded_bytes after ≡ guarded_bytes before)
+
+-- the journal is such a run along which RO is guarded in each entry
+abbrev pub RunsGuardedTo : List Entry → Option (List ℕ) → Option (List ℕ) → Type 0
+RunsGuardedTo entries =
+    Changes (λ before after. (last : Table) × RunsGuarded (opening before true Lpc) entries last × (last.flash ≡ after))

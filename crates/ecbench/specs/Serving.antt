@@ -8,6 +8,8 @@ use Rattle.ec_model.specs.declared.event.Hurt.TheVariants.{Cut}
 use Rattle.ec_model.specs.declared.event.WorldEvent.{WorldEvent}
 use Rattle.ec_wire.specs.Calls.{WireView, with_spare}
 use Rattle.bench_wire.specs.Adding.{Adds, Extends, Happens as HappensNow}
+use Rattle.ectool_lines.specs.declared.sending.ToolErr.{ToolErr}
+use Rattle.ectool_lines.specs.declared.sending.ToolErr.TheVariants as tool_err
 use Rattle.ectool_lines.specs.declared.tool.Tool.{Tool}
 use Rattle.ectool_lines.specs.Tools.{IsInRange}
 use Rattle.ectool_lines.specs.Texts.{printed}
@@ -58,10 +60,8 @@ pub record HappensLine (number : ℕ) (line : List ℕ) (old new : WireView) : T
   pub alive : hurt ≡ Cut → marked.on ≡ true
   pub adds : Adds (Step event 0 0 0 hurt) marked new
 
--- a line was marked, and the calls that it wants were made; this is its text without the line feed
-pub record MakesLine (number : ℕ) (line words : List ℕ) (old new : WireView) : Type 0 where
-  pub raw : Raw
-  pub wants : deed_of line ≡ Ok (Makes raw)
+-- a line was marked, and these calls of the host were made; this is its text without the line feed
+pub record MakesMarked (number : ℕ) (raw : Raw) (words : List ℕ) (old new : WireView) : Type 0 where
   pub marked : WireView
   pub marks : MarksLine number old marked
   pub makes : MakesRaw raw words marked new
@@ -70,7 +70,7 @@ pub record MakesLine (number : ℕ) (line words : List ℕ) (old new : WireView)
 pub data DoesLine (number : ℕ) (line text : List ℕ) (old new : WireView) : Type 0 where
   Carried : CarriesLine number line text old new → DoesLine number line text old new
   Happened : HappensLine number line old new → text ≡ printed (codes "ok") → DoesLine number line text old new
-  Made : (words : List ℕ) → MakesLine number line words old new → text ≡ printed words → DoesLine number line text old new
+  Made : (raw : Raw) (words : List ℕ) → deed_of line ≡ Ok (Makes raw) → MakesMarked number raw words old new → text ≡ printed words → DoesLine number line text old new
 
 -- a line that does nothing was passed over
 pub record PassesLine (line : List ℕ) (old new : WireView) (before after : Option (List ℕ)) : Type 0 where
@@ -99,6 +99,11 @@ exit_at End number = Some Done
 exit_at TooLong number = Some (BadLine number why.TooLong)
 exit_at Full number = Some ScriptTooLong
 
+-- the exit that ends a script where a line's text was not printed whole
+abbrev pub exit_of : ToolErr → Exit
+exit_of tool_err.Sink = SinkFault
+exit_of tool_err.NoMemory = NoMemory
+
 -- an event of the world happened behind a line's mark
 pub record HappensMarked (number : ℕ) (happened : WorldEvent) (old new : WireView) : Type 0 where
   pub marked : WireView
@@ -113,12 +118,6 @@ ServesEvent (Err SinkFault) number happened old new before after =
     HappensMarked number happened old new × AppendsFront (printed (codes "ok")) before after
 ServesEvent (Err NoMemory) number happened old new before after = (new ≡ old) × Appends [] before after
 ServesEvent (Err other) number happened old new before after = ⊥
-
--- calls of the host were made behind a line's mark
-pub record MakesMarked (number : ℕ) (raw : Raw) (words : List ℕ) (old new : WireView) : Type 0 where
-  pub marked : WireView
-  pub marks : MarksLine number old marked
-  pub makes : MakesRaw raw words marked new
 
 -- what was done with calls of the host: they were made, and their text was printed, whole or in part; or memory was refused,
 -- and the line was marked at most

@@ -11,7 +11,6 @@ use crate::run::Exit;
 use bench_io::Sink;
 use bench_wire::Bench;
 use bus_lpc::Lpc;
-use ectool_lines::ToolErr;
 use flash_dev::FlashDev;
 use raw_lines::{read_ports, tick, write_ports};
 
@@ -27,11 +26,8 @@ pub fn serve_tick<F: FlashDev, K: Sink>(
     ensures later { K.faults sink.old ≤ K.faults sink.new }
 {
     begin(bench, number)?;
-    match tick(bench, count, sink) {
-        Ok(()) => Ok(()),
-        Err(ToolErr::Sink) => Err(Exit::SinkFault),
-        Err(ToolErr::NoMemory) => Err(Exit::NoMemory),
-    }
+    tick(bench, count, sink)?;
+    Ok(())
 }
 
 /// The bytes are written to the ports from this one on, and `ok` is printed.
@@ -48,11 +44,8 @@ pub fn serve_out<F: FlashDev, K: Sink>(
     ensures later { K.faults sink.old ≤ K.faults sink.new }
 {
     begin(bench, number)?;
-    match write_ports(bench, port, bytes, sink) {
-        Ok(()) => Ok(()),
-        Err(ToolErr::Sink) => Err(Exit::SinkFault),
-        Err(ToolErr::NoMemory) => Err(Exit::NoMemory),
-    }
+    write_ports(bench, port, bytes, sink)?;
+    Ok(())
 }
 
 /// So many ports are read from this one on, and the bytes that the host got are printed.
@@ -70,9 +63,6 @@ pub fn serve_in<F: FlashDev, K: Sink>(
     ensures later { K.faults sink.old ≤ K.faults sink.new }
 {
     begin(bench, number)?;
-    match read_ports(bench, port, count, sink) {
-        Ok(()) => Ok(()),
-        Err(ToolErr::Sink) => Err(Exit::SinkFault),
-        Err(ToolErr::NoMemory) => Err(Exit::NoMemory),
-    }
+    read_ports(bench, port, count, sink)?;
+    Ok(())
 }

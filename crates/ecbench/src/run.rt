@@ -3,8 +3,9 @@ ghost use Rattle.std.specs.Prelude.{◌≡◌, [], IfSome, count_by};
 ghost use Rattle.flash_dev.specs.Counts.{Rose};
 ghost use Rattle.ec_model.specs.Upset.{is_cut_entry};
 ghost use Rattle.ec_wire.specs.Calls.{RoseBy, is_failed_entry};
-ghost use Rattle.ecbench.specs.Endings.{EndsAsSeen, EndsUndisturbed, RunsTo, KeepsRo, NothingFailed};
+ghost use Rattle.ecbench.specs.Endings.{EndsAsSeen, EndsUndisturbed, RunsTo, KeepsRo, RunsGuardedTo, NothingFailed};
 ghost use Rattle.ecbench.specs.Statuses.{exit_status};
+ghost use Rattle.ecbench.specs.Serving.{exit_of};
 
 use crate::serving::drive;
 use crate::word::{Word, are_words};
@@ -14,6 +15,7 @@ use bus_lpc::Lpc;
 use ec_core::Ec;
 use ec_types::Why;
 use ec_wire::Journal;
+use ectool_lines::ToolErr;
 use flash_dev::{FlashDev, Geometry};
 use std::alloc::Global;
 use thiserror::Error;
@@ -65,6 +67,17 @@ impl Exit {
     }
 }
 
+impl From<ToolErr> for Exit {
+    ghost from_gives = { λ error exit. exit ≡ exit_of error };
+
+    fn from(error: ToolErr) -> Exit {
+        match error {
+            ToolErr::Sink => Exit::SinkFault,
+            ToolErr::NoMemory => Exit::NoMemory,
+        }
+    }
+}
+
 /// How a run ended, with the flash as the controller left it and the journal of all that happened.
 #[derive(Drop)]
 pub struct Ended<F> {
@@ -88,6 +101,9 @@ pub fn run<F: FlashDev, S: Source, K: Sink>(
     ensures run { RunsTo result.journal.entries (F.seen flash).held (F.seen result.flash).held }
     // Guarded RO is handed back as it came, whatever failed, was torn or was sent.
     ensures guard { KeepsRo result.journal.entries (F.seen flash).held (F.seen result.flash).held }
+    // Once RO is guarded and while the pin stays asserted, it stays so, byte for byte, and each boot ends with RO running, locked
+    // where it was guarded.
+    ensures guarded { RunsGuardedTo result.journal.entries (F.seen flash).held (F.seen result.flash).held }
     // At most as many entries failed as the flash counted faults, and at most as many were cut as it counted cuts.
     ensures faults { RoseBy (count_by is_failed_entry result.journal.entries) (F.seen flash).faults (F.seen result.flash).faults }
     ensures cuts { RoseBy (count_by is_cut_entry result.journal.entries) (F.seen flash).cuts (F.seen result.flash).cuts }

@@ -16,7 +16,7 @@ use bus_lpc::Lpc;
 use ec_model::WorldEvent;
 use ec_types::Why;
 use ec_wire::Wire;
-use ectool_lines::{ToolErr, run};
+use ectool_lines::run;
 use flash_dev::{Failed, FlashDev};
 use line_reader::{LineReader, Next};
 use script_lines::Line;
@@ -150,11 +150,8 @@ fn serve_tool<F: FlashDev, K: Sink>(
         Err(why) => return Err(Exit::BadLine { line: number, why }),
     };
     begin(bench, number)?;
-    match run(bench, &tool, sink) {
-        Ok(()) => Ok(()),
-        Err(ToolErr::Sink) => Err(Exit::SinkFault),
-        Err(ToolErr::NoMemory) => Err(Exit::NoMemory),
-    }
+    run(bench, &tool, sink)?;
+    Ok(())
 }
 
 // An event of the world happens, and `ok` is printed.

@@ -46,7 +46,7 @@ fn poll_waited<W: Wire>(w: &mut W) -> bool
     ensures polls { PollsWaited result (W.view w.old) (W.view w.new) }
     ensures room { (W.view w.old).spare ≤ (W.view w.new).spare + 8 }
 {
-    for turn in 0..4u8 {
+    for _turn in 0..4u8 {
         waited(w);
         let status = did(w, LOOK);
         if !busy(status) {

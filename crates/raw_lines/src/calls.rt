@@ -25,7 +25,7 @@ pub fn wait_times<W: Wire>(w: &mut W, count: u32)
     requires { count ≤ (W.view w.old).spare }
     ensures { Made (replicate count Waited) (W.view w.old) (W.view w.new) }
 {
-    for turn in 0..count {
+    for _turn in 0..count {
         w.wait();
     }
 }

@@ -1,6 +1,6 @@
 use Rattle.std.proofs.Common.{◌≡◌, ap, sym, ◌∙◌, refl, true}
 use Rattle.flash_dev.specs.Ranges.{is_flash_size}
-use Rattle.ecbench.proofs.Whole.{runs-none, keeps-none, opens, run-ends, run-runs, run-keeps, run-faults, run-cuts, run-undisturbed}
+use Rattle.ecbench.proofs.Whole.{runs-none, keeps-none, guarded-none, opens, run-ends, run-runs, run-keeps, run-guarded, run-faults, run-cuts, run-undisturbed}
 use Rattle.ecbench.proofs.run.run.Goals as goal
 
 pub returns-in_default-clause-run : goal.returns-in_default-clause-run
@@ -23,10 +23,26 @@ returns-then-not-are_words-clause-guard g c =
     let held = (g.F.FlashDev.seen c.args.flash).held in
     rw (c.refused.ensures.flash) (keeps-none c.refused.result.journal.entries held)
 
+pub returns-in_default-clause-guarded : goal.returns-in_default-clause-guarded
+returns-in_default-clause-guarded g c =
+    let held = (g.F.FlashDev.seen c.args.flash).held in
+    rw (c.refused-in_default.ensures.flash, c.refused-in_default.ensures.journal) (guarded-none held)
+
+pub returns-then-not-are_words-clause-guarded : goal.returns-then-not-are_words-clause-guarded
+returns-then-not-are_words-clause-guarded g c =
+    let held = (g.F.FlashDev.seen c.args.flash).held in
+    rw (c.refused.ensures.flash, c.refused.ensures.journal) (guarded-none held)
+
 pub returns-clause-guard : goal.returns-clause-guard
 returns-clause-guard g c =
     let allowed : is_flash_size (g.F.FlashDev.seen c.args.flash).extent ≡ true = ap is_flash_size (sym c.size.ensures) ∙ c.in-Some.ensures.allowed.0 refl in
     run-keeps _ _ _ c.new-bench.result c.drive-exit.new.bench _ _ _ _ _ (g.met.F.FlashDev.told_whole c.args.flash) allowed (opens _ _ _ c.new-bench.ensures c.new-2.ensures.table c.new-2.ensures.device)
+    (record { flash = c.finish-flash.ensures.flash; journal = c.finish-flash.ensures.journal; table = c.finish-flash.ensures.table }) c.drive-exit.ensures.drives
+
+pub returns-clause-guarded : goal.returns-clause-guarded
+returns-clause-guarded g c =
+    let allowed : is_flash_size (g.F.FlashDev.seen c.args.flash).extent ≡ true = ap is_flash_size (sym c.size.ensures) ∙ c.in-Some.ensures.allowed.0 refl in
+    run-guarded _ _ _ c.new-bench.result c.drive-exit.new.bench _ _ _ _ _ (g.met.F.FlashDev.told_whole c.args.flash) allowed (opens _ _ _ c.new-bench.ensures c.new-2.ensures.table c.new-2.ensures.device)
     (record { flash = c.finish-flash.ensures.flash; journal = c.finish-flash.ensures.journal; table = c.finish-flash.ensures.table }) c.drive-exit.ensures.drives
 
 pub returns-clause-ends : goal.returns-clause-ends

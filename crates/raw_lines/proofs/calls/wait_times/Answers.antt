@@ -10,5 +10,5 @@ loop-turn-preserved g c =
     let made = made-wait _ _ c.wait.ensures.adds in
     record {
       room = omega (arith, so_far.room, made-room _ _ _ made);
-      made = made-as _ _ _ _ (replicate-more c.loop-turn.turn Waited) (made-then _ _ _ _ _ so_far.made made);
+      made = made-as _ _ _ _ (replicate-more c.loop-turn._turn Waited) (made-then _ _ _ _ _ so_far.made made);
     }
