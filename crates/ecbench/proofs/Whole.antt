@@ -1,5 +1,5 @@
 -- A whole run, from the flash as it came to the flash and the journal that are handed back.
-use Rattle.std.proofs.Common.{◌≡◌, refl, sym, ap, ◌∙◌, subst, ℕ, true, List, [], ◌++◌, length, Option, Some, None}
+use Rattle.std.proofs.Common.{◌≡◌, refl, sym, ap, ◌∙◌, subst, ℕ, true, List, [], ◌∷◌, ◌++◌, length, Option, Some, None}
 use Rattle.std.specs.Prelude.{option_map, IfSome, count_by}
 use Rattle.flash_dev.specs.Counts.{Rose}
 use Rattle.flash_dev.specs.Device.{DeviceView}
@@ -15,7 +15,7 @@ use Rattle.ec_wire.specs.Journals.{JournalView}
 use Rattle.ec_core.specs.View.{EcView}
 use Rattle.bench_wire.specs.BenchView.{BenchView, wire_view}
 use Rattle.ecbench.specs.declared.run.Exit.{Exit}
-use Rattle.ecbench.specs.Endings.{IsStarted, EndsAsSeen, EndsUndisturbed, RunsTo, KeepsRo, RunsGuardedTo, NothingFailed}
+use Rattle.ecbench.specs.Endings.{IsStarted, EndsAsSeen, EndsUndisturbed, RunsTo, KeepsRo, GuardsRun, NothingFailed}
 use Rattle.ecbench.specs.Serving.{Drives}
 use Rattle.ecbench.proofs.Powering.{Grew, drives-grew, drives-seen, drives-undisturbed}
 
@@ -45,18 +45,20 @@ keeps-run entries (Some before) (Some after) sized (last, run, same) = λ locked
     ap guarded_bytes (sym same)
     ∙ (run-stays (off_table before true Lpc) entries last (record { size = sized; power = tt }) (record { pin = refl; stored = locked; locked = refl }) keeps run).bytes
 
--- no entries, along which RO is guarded
-pub guarded-none : (held : Option (List ℕ)) → RunsGuardedTo [] held held
-guarded-none None = tt
-guarded-none (Some bytes) = (off_table bytes true Lpc, refl, refl)
+-- no entries have an entry
+no-entry : (before after : List Entry) (entry : Entry) → [] ≡ before ++ entry ∷ after → ⊥
+no-entry [] after entry same = cc
+no-entry (first ∷ before) after entry same = cc
 
--- along a run RO is guarded in each entry
-pub guarded-run : (entries : List Entry) (came left : Option (List ℕ)) → IfSome came (λ bytes. is_flash_size (length bytes) ≡ true) → RunsTo entries came left → RunsGuardedTo entries came left
-guarded-run entries None None sized runs = tt
-guarded-run entries None (Some after) sized runs = absurd runs
-guarded-run entries (Some before) None sized runs = absurd runs
-guarded-run entries (Some before) (Some after) sized (last, run, same) =
-    (last, run-guards (off_table before true Lpc) entries last (record { size = sized; power = tt }) run, same)
+-- in each of no entries RO is guarded
+pub guarded-none : (held : Option (List ℕ)) → GuardsRun [] held
+guarded-none None = tt
+guarded-none (Some bytes) = λ before after entry reached next parts run step. absurd (no-entry before after entry parts)
+
+-- and so it is in each entry of a journal
+pub guarded-run : (entries : List Entry) (came : Option (List ℕ)) → IfSome came (λ bytes. is_flash_size (length bytes) ≡ true) → GuardsRun entries came
+guarded-run entries None sized = tt
+guarded-run entries (Some bytes) sized = run-guards (off_table bytes true Lpc) entries (record { size = sized; power = tt })
 
 -- a bench that is off, with the flash as it came
 pub record Opens (came : DeviceView) (bench : BenchView) : Type 0 where
@@ -146,8 +148,5 @@ run-keeps exit came left bench after journal script rest before printed whole al
     (run-runs exit came left bench after journal script rest before printed opened hands drives)
 
 -- RO is guarded in each entry of the journal
-pub run-guarded : (exit : Exit) (came left : DeviceView) (bench after : BenchView) (journal : JournalView) (script rest before printed : Option (List ℕ)) → ((bytes : List ℕ) → came.held ≡ Some bytes → length bytes ≡ came.extent) → is_flash_size came.extent ≡ true → Opens came bench → HandsBack after left journal →
-    Drives exit (wire_view Lpc bench) (wire_view Lpc after) script rest before printed → RunsGuardedTo journal.entries came.held left.held
-run-guarded exit came left bench after journal script rest before printed whole allowed opened hands drives =
-    guarded-run journal.entries came.held left.held (told-allowed came.held came.extent whole allowed)
-    (run-runs exit came left bench after journal script rest before printed opened hands drives)
+pub run-guarded : (entries : List Entry) (came : DeviceView) → ((bytes : List ℕ) → came.held ≡ Some bytes → length bytes ≡ came.extent) → is_flash_size came.extent ≡ true → GuardsRun entries came.held
+run-guarded entries came whole allowed = guarded-run entries came.held (told-allowed came.held came.extent whole allowed)

@@ -1,5 +1,5 @@
 -- What each exit of a run says of the words, the flash, the script, the printed bytes and the journal.
-use Rattle.std.specs.Prelude.{◌≡◌, ◌⊎◌, ℕ, Bool, true, false, List, [], ◌∷◌, map, Option, IsTrue, IsFalse}
+use Rattle.std.specs.Prelude.{◌≡◌, ◌⊎◌, ℕ, Bool, true, false, List, [], ◌∷◌, map, Option, IsTrue, IsFalse, IfSome}
 use Rattle.std.specs.List.{list_all}
 use Rattle.ec_types.specs.declared.bus.BusKind.TheVariants.{Lpc}
 use Rattle.ec_types.specs.declared.reset.ResetCause.TheVariants.{PowerOn}
@@ -128,7 +128,6 @@ abbrev pub KeepsRo : List Entry → Option (List ℕ) → Option (List ℕ) → 
 KeepsRo entries =
     Changes (λ before after. IsTrue (stored before).ro → KeepsPin entries → guarded_bytes after ≡ guarded_bytes before)
 
--- the journal is such a run along which RO is guarded in each entry
-abbrev pub RunsGuardedTo : List Entry → Option (List ℕ) → Option (List ℕ) → Type 0
-RunsGuardedTo entries =
-    Changes (λ before after. (last : Table) × RunsGuarded (opening before true Lpc) entries last × (last.flash ≡ after))
+-- in each entry of the journal RO is guarded, once it is so
+abbrev pub GuardsRun : List Entry → Option (List ℕ) → Type 0
+GuardsRun entries held = IfSome held (λ bytes. RunsGuarded (opening bytes true Lpc) entries)

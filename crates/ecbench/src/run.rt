@@ -3,7 +3,7 @@ ghost use Rattle.std.specs.Prelude.{◌≡◌, [], IfSome, count_by};
 ghost use Rattle.flash_dev.specs.Counts.{Rose};
 ghost use Rattle.ec_model.specs.Upset.{is_cut_entry};
 ghost use Rattle.ec_wire.specs.Calls.{RoseBy, is_failed_entry};
-ghost use Rattle.ecbench.specs.Endings.{EndsAsSeen, EndsUndisturbed, RunsTo, KeepsRo, RunsGuardedTo, NothingFailed};
+ghost use Rattle.ecbench.specs.Endings.{EndsAsSeen, EndsUndisturbed, RunsTo, KeepsRo, GuardsRun, NothingFailed};
 ghost use Rattle.ecbench.specs.Statuses.{exit_status};
 ghost use Rattle.ecbench.specs.Serving.{exit_of};
 
@@ -103,7 +103,7 @@ pub fn run<F: FlashDev, S: Source, K: Sink>(
     ensures guard { KeepsRo result.journal.entries (F.seen flash).held (F.seen result.flash).held }
     // Once RO is guarded and while the pin stays asserted, it stays so, byte for byte, and each boot ends with RO running, locked
     // where it was guarded.
-    ensures guarded { RunsGuardedTo result.journal.entries (F.seen flash).held (F.seen result.flash).held }
+    ensures guarded { GuardsRun result.journal.entries (F.seen flash).held }
     // At most as many entries failed as the flash counted faults, and at most as many were cut as it counted cuts.
     ensures faults { RoseBy (count_by is_failed_entry result.journal.entries) (F.seen flash).faults (F.seen result.flash).faults }
     ensures cuts { RoseBy (count_by is_cut_entry result.journal.entries) (F.seen flash).cuts (F.seen result.flash).cuts }

@@ -26,12 +26,12 @@ returns-then-not-are_words-clause-guard g c =
 pub returns-in_default-clause-guarded : goal.returns-in_default-clause-guarded
 returns-in_default-clause-guarded g c =
     let held = (g.F.FlashDev.seen c.args.flash).held in
-    rw (c.refused-in_default.ensures.flash, c.refused-in_default.ensures.journal) (guarded-none held)
+    rw (c.refused-in_default.ensures.journal) (guarded-none held)
 
 pub returns-then-not-are_words-clause-guarded : goal.returns-then-not-are_words-clause-guarded
 returns-then-not-are_words-clause-guarded g c =
     let held = (g.F.FlashDev.seen c.args.flash).held in
-    rw (c.refused.ensures.flash, c.refused.ensures.journal) (guarded-none held)
+    rw (c.refused.ensures.journal) (guarded-none held)
 
 pub returns-clause-guard : goal.returns-clause-guard
 returns-clause-guard g c =
@@ -42,8 +42,7 @@ returns-clause-guard g c =
 pub returns-clause-guarded : goal.returns-clause-guarded
 returns-clause-guarded g c =
     let allowed : is_flash_size (g.F.FlashDev.seen c.args.flash).extent ≡ true = ap is_flash_size (sym c.size.ensures) ∙ c.in-Some.ensures.allowed.0 refl in
-    run-guarded _ _ _ c.new-bench.result c.drive-exit.new.bench _ _ _ _ _ (g.met.F.FlashDev.told_whole c.args.flash) allowed (opens _ _ _ c.new-bench.ensures c.new-2.ensures.table c.new-2.ensures.device)
-    (record { flash = c.finish-flash.ensures.flash; journal = c.finish-flash.ensures.journal; table = c.finish-flash.ensures.table }) c.drive-exit.ensures.drives
+    run-guarded _ (g.F.FlashDev.seen c.args.flash) (g.met.F.FlashDev.told_whole c.args.flash) allowed
 
 pub returns-clause-ends : goal.returns-clause-ends
 returns-clause-ends g c =
