@@ -101,7 +101,7 @@ power-on (Pin on) cause same = cc
 
 boot-off : (flash : List ℕ) (pin : Bool) (kind : BusKind) (bad : Bool) (after : Core) → after ≡ booted flash pin PowerOn bad →
     OffLeaves (boot_hurt bad) (off_table flash pin kind) (PowerEvent true) (record { table = table_of after (fresh_bus kind); answer = 0 })
-boot-off flash pin kind true after after_is = ap (λ (c : Core). let a : After = record { table = table_of c (fresh_bus kind); answer = 0 } in a) after_is
+boot-off flash pin kind true after after_is = (refl, ap (λ (c : Core). let a : After = record { table = table_of c (fresh_bus kind); answer = 0 } in a) after_is)
 boot-off flash pin kind false after after_is = ap (λ (c : Core). let a : After = record { table = table_of c (fresh_bus kind); answer = 0 } in a) after_is
 
 boot-off-told : (off : OffView) (next : RunView) (pin : Bool) (kind : BusKind) (bad : Bool) →

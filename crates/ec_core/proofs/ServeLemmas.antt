@@ -1,5 +1,5 @@
 -- What a request leaves, by its answer.
-use Rattle.std.proofs.Common.{◌≡◌, refl, sym, ap, ◌∙◌, subst, ℕ, ◌-◌, ◌≤◌, Bool, List, [], length, Option, Some, None, Result, Ok, Err, inl, inr, arith}
+use Rattle.std.proofs.Common.{◌≡◌, refl, sym, ap, ◌∙◌, subst, ℕ, ◌-◌, ◌≤◌, Bool, List, [], length, Option, Some, None, Result, Ok, Err, inl, inr, arith, ◌||◌, true, false}
 use Rattle.std.specs.Prelude.{option_map, ◌⊎◌, IsTrue, IsNone}
 use Rattle.flash_dev.specs.Told.{Changes}
 use Rattle.ec_types.specs.declared.status.Status.{Status}
@@ -12,11 +12,11 @@ use Rattle.ec_model.specs.declared.event.Event.{Event}
 use Rattle.ec_model.specs.Packet.{RequestView, framing, response_packet}
 use Rattle.ec_model.specs.Bus.{BusState, BusAnswer, due_now, OnLpc, OnI2c, OnSpi, kind_of, replied}
 use Rattle.ec_model.specs.Table.{Core, table_of, off_table}
-use Rattle.ec_model.specs.Answer.{Outcome, Answered, Restarts}
+use Rattle.ec_model.specs.Answer.{Outcome, Answered, Restarts, is_restart}
 use Rattle.ec_model.specs.Handle.{admitted, admitted_from, asked, row_of, operations_by, handled, handled_reads, handled_operations}
 use Rattle.ec_model.specs.Work.{Serve, After as AfterEvent, work_on, lost_answer}
 use Rattle.ec_model.specs.WholeStep.{after_outcome}
-use Rattle.ec_model.specs.Step.{WorkLeaves, after_unread, outcome_reads, error_replied, failed_core}
+use Rattle.ec_model.specs.Step.{WorkLeaves, after_unread, error_replied, failed_core}
 use Rattle.ec_packet.specs.declared.request.Request.{Request}
 use Rattle.ec_packet.specs.Read.{request_view, IsReadAs}
 use Rattle.ec_wire.specs.Dues.{asked_of}
@@ -74,10 +74,10 @@ packet-refused kind bytes error hurt status body on read whole status_is body_is
       leaves None = tt
       leaves (Some f) = ap (λ (r : Result RequestView ℕ). row_of (core_at on f) (packet_limit kind) (admitted_from (core_at on f) r)) (read-err (framing bytes) error read)
 
--- a read that failed, where the outcome is answered
-reads-of : (outcome : Outcome) (reads : Bool) → HasReply outcome → IsTrue reads → IsTrue (outcome_reads reads outcome)
-reads-of (Answered after status body) reads has is = is
-reads-of Restarts reads has is = absurd has
+-- a row that reads
+reads-of : (reads restarts : Bool) → IsTrue reads → IsTrue (reads || restarts)
+reads-of true restarts is = refl
+reads-of false restarts is = cc
 
 unread-of : (core : Core) (bus : BusAnswer) (lost : ℕ) (outcome : Outcome) → HasReply outcome →
     ◌≡◌ {A = AfterEvent} (record { table = table_of core (error_replied bus.state); answer = bus.answer }) (after_unread core bus lost outcome)
@@ -104,7 +104,7 @@ replied-leaves Failed before after bus answer lost bytes status body alive faile
       WorkLeaves Failed before (record { state = bus; answer = answer }) lost (Serve bytes) (record { table = table_of after (replied (response_packet status body) bus); answer = answer })
   by (inl read) =
       inl (record {
-        reads = reads-of (handled before (packet_limit (kind_of bus)) bytes) (handled_reads before (packet_limit (kind_of bus)) bytes) read.1 read.0;
+        reads = reads-of (handled_reads before (packet_limit (kind_of bus)) bytes) (is_restart (handled before (packet_limit (kind_of bus)) bytes)) read.0;
         leaves = ap (λ (c : Core). with_reply c bus answer status body) read.2 ∙ with-error before bus answer status body failed.status_is failed.body_is
             ∙ unread-of before (record { state = bus; answer = answer }) lost (handled before (packet_limit (kind_of bus)) bytes) read.1;
       })

@@ -11,13 +11,13 @@ use Rattle.ec_model.specs.Commands.{Command, FlashWrite, FlashProtect}
 use Rattle.ec_model.specs.Bus.{BusAnswer, kind_of}
 use Rattle.ec_model.specs.Table.{Table, Power, Off, On, Core, Valid, IsPowerValid, core_of}
 use Rattle.ec_model.specs.Operations.{Operation, StopsAt}
-use Rattle.ec_model.specs.Answer.{Outcome, Answered, Restarts, unless_refused}
+use Rattle.ec_model.specs.Answer.{Outcome, Answered, Restarts, unless_refused, is_restart}
 use Rattle.ec_model.specs.FlashRows.{write_refusal}
 use Rattle.ec_model.specs.Handle.{Admitted, row, row_of, row_operations, operations_by, asked, handled}
 use Rattle.ec_model.specs.Work.{is_power_on, After, Work, Serve, EraseNext, Boot, work_on, work_operations, bus_after, lost_answer}
 use Rattle.ec_model.specs.WholeStep.{after_outcome}
 use Rattle.ec_model.specs.Step.{IsStep, after_unread, WorkLeaves, OffLeaves, EventLeavesBy}
-use Rattle.ec_model.specs.Guarded.{Guarded, boots, boots_by, is_boot, is_restart, is_locked_if_on, keeps_pin, runs_ro, runs_ro_locked}
+use Rattle.ec_model.specs.Guarded.{Guarded, boots, boots_by, is_boot, is_locked_if_on, keeps_pin, runs_ro, runs_ro_locked}
 use Rattle.ec_model.proofs.GuardStep.{step-kept}
 use Rattle.ec_model.proofs.StepLaws.{kind-step}
 
@@ -73,7 +73,7 @@ work-boots Cut core bus lost work after boot cut = absurd (none-stops cut.place 
 -- and behind a power-on
 off-boots : (hurt : Hurt) (old : Table) (event : Event) (after : After) → is_power_on event ≡ true → OffLeaves hurt old event after → runs_ro after.table.power ≡ true
 off-boots Whole old (PowerEvent true) after on leaves = rw leaves refl
-off-boots Failed old (PowerEvent true) after on leaves = rw leaves refl
+off-boots Failed old (PowerEvent true) after on leaves = rw leaves.1 refl
 off-boots Cut old event after on leaves = absurd leaves
 off-boots hurt old other after on leaves = cc
 

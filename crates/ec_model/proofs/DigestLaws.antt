@@ -1,5 +1,5 @@
 -- A digest that is shown was shown before, with its range as it was, or it was made in the step.
-use Rattle.std.proofs.Common.{◌≡◌, refl, sym, ap, ◌∙◌, ℕ, ◌⊎◌, inl, inr, true, false, nat_le, List, [], ◌∷◌, ◌++◌, length}
+use Rattle.std.proofs.Common.{◌≡◌, refl, sym, ap, ◌∙◌, ℕ, ◌⊎◌, inl, inr, true, nat_le, List, [], ◌∷◌, ◌++◌, length}
 use Rattle.sha2.specs.Sha256.{sha256}
 use Rattle.ec_types.specs.Tables.{packet_limit}
 use Rattle.ec_model.specs.declared.live.EraseJob.{EraseJob}
@@ -128,9 +128,7 @@ off-digests Whole old (PinEvent on) after off leaves = rw leaves (λ at size dig
 off-digests Whole old other after off leaves = rw leaves (λ at size digest shown. none at size digest (ap shown_hash (sym off) ∙ shown)) where
   none : (at size : ℕ) (digest : List ℕ) → Idle ≡ Done at size digest → IsDigest Idle [] old.flash old.flash at size digest
   none at size digest shown = cc
-off-digests Failed old (PowerEvent true) after off leaves = rw leaves (λ at size digest shown. cc)
-off-digests Failed old (PowerEvent false) after off leaves = absurd leaves
-off-digests Failed old other after off leaves = absurd leaves
+off-digests Failed old event after off leaves = rw leaves.1 (λ at size digest shown. cc)
 off-digests Cut old event after off leaves = absurd leaves
 
 event-digests : (hurt : Hurt) (old : Table) (event : Event) (power : Power) (after : After) → Valid old → old.power ≡ power → IsPowerValid (length old.flash) old.kind power → EventLeavesBy hurt old event power after → StepDigests old power after.table

@@ -222,12 +222,7 @@ off-kept Whole old (Reset cause) after known pin off keeps leaves = rw leaves (s
 off-kept Whole old (PowerEvent true) after known pin off keeps leaves = rw leaves (kept_boot old.flash old.pin old.kind PowerOn false known pin)
 off-kept Whole old (PowerEvent false) after known pin off keeps leaves = rw leaves (same_kept old known pin off)
 off-kept Whole old (PinEvent on) after known pin off keeps leaves = rw leaves (kept_off old.flash old.flash on old.kind known keeps (leaves-refl (length old.flash / 2) old.flash))
-off-kept Failed old (Access access) after known pin off keeps leaves = absurd leaves
-off-kept Failed old Tick after known pin off keeps leaves = absurd leaves
-off-kept Failed old (Reset cause) after known pin off keeps leaves = absurd leaves
-off-kept Failed old (PowerEvent true) after known pin off keeps leaves = rw leaves (kept_boot old.flash old.pin old.kind PowerOn true known pin)
-off-kept Failed old (PowerEvent false) after known pin off keeps leaves = absurd leaves
-off-kept Failed old (PinEvent on) after known pin off keeps leaves = absurd leaves
+off-kept Failed old event after known pin off keeps leaves = rw leaves.1 (kept_boot old.flash old.pin old.kind PowerOn true known pin)
 off-kept Cut old event after known pin off keeps leaves = absurd leaves
 
 -- an event, by whether the controller is on

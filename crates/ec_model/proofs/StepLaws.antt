@@ -156,9 +156,9 @@ pin_of-event awake (PinEvent on) pin = refl
 off-has : (hurt : Hurt) (old : Table) (event : Event) (after : After) → OffLeaves hurt old event after → Has (pin_after event old.pin) old.kind after.table
 off-has Whole old (PowerEvent true) after leaves = rw leaves (record { pin_is = refl; kind_is = kind-fresh old.kind })
 off-has Whole old other after leaves = rw leaves (record { pin_is = refl; kind_is = refl })
-off-has Failed old (PowerEvent true) after leaves = rw leaves (record { pin_is = refl; kind_is = kind-fresh old.kind })
-off-has Failed old (PowerEvent false) after leaves = absurd leaves
-off-has Failed old other after leaves = absurd leaves
+off-has Failed old (PowerEvent true) after leaves = rw leaves.1 (record { pin_is = refl; kind_is = kind-fresh old.kind })
+off-has Failed old (PowerEvent false) after leaves = let off = leaves.0 in cc
+off-has Failed old other after leaves = let off = leaves.0 in cc
 off-has Cut old event after leaves = absurd leaves
 
 -- the pin after an event, by whether the controller is on

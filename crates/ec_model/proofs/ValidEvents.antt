@@ -251,12 +251,7 @@ off-event-valid Whole old (Reset cause) after valid leaves = rw leaves valid
 off-event-valid Whole old (PowerEvent true) after valid leaves = rw leaves (booted-table-valid old.flash old.pin old.kind PowerOn false valid.size)
 off-event-valid Whole old (PowerEvent false) after valid leaves = rw leaves valid
 off-event-valid Whole old (PinEvent on) after valid leaves = rw leaves (off-valid old.flash on old.kind valid.size)
-off-event-valid Failed old (Access access) after valid leaves = absurd leaves
-off-event-valid Failed old Tick after valid leaves = absurd leaves
-off-event-valid Failed old (Reset cause) after valid leaves = absurd leaves
-off-event-valid Failed old (PowerEvent true) after valid leaves = rw leaves (booted-table-valid old.flash old.pin old.kind PowerOn true valid.size)
-off-event-valid Failed old (PowerEvent false) after valid leaves = absurd leaves
-off-event-valid Failed old (PinEvent on) after valid leaves = absurd leaves
+off-event-valid Failed old event after valid leaves = rw leaves.1 (booted-table-valid old.flash old.pin old.kind PowerOn true valid.size)
 off-event-valid Cut old event after valid leaves = absurd leaves
 
 -- a valid controller that is on

@@ -1,7 +1,7 @@
 -- One event of the controller: what it may leave and answer, also where a flash call fails or power is lost inside it.
-use Rattle.std.specs.Prelude.{◌≡◌, ◌⊎◌, ℕ, suc, Bool, true, false, List, [], take, IsTrue, None}
+use Rattle.std.specs.Prelude.{◌≡◌, ◌⊎◌, ℕ, suc, Bool, true, false, ◌||◌, List, [], take, IsTrue, None}
 use Rattle.ec_types.specs.Tables.{packet_limit}
-use Rattle.ec_types.specs.declared.reset.ResetCause.TheVariants.{Cold}
+use Rattle.ec_types.specs.declared.reset.ResetCause.TheVariants.{PowerOn, Cold}
 use Rattle.ec_model.specs.declared.event.Event.{Event}
 use Rattle.ec_model.specs.declared.event.Entry.{Entry}
 use Rattle.ec_model.specs.declared.event.Entry.TheVariants.{Step, Mark}
@@ -13,9 +13,9 @@ use Rattle.ec_model.specs.Table.{Table, Power, Off, On, Core, core_of, table_of,
 use Rattle.ec_model.specs.Hash.{without_hash}
 use Rattle.ec_model.specs.Boot.{booted_table}
 use Rattle.ec_model.specs.Operations.{Operation, StopsAt, touched_by}
-use Rattle.ec_model.specs.Answer.{Outcome, Answered, Restarts}
+use Rattle.ec_model.specs.Answer.{Outcome, Answered, Restarts, is_restart}
 use Rattle.ec_model.specs.Handle.{handled, handled_reads}
-use Rattle.ec_model.specs.Work.{After, Work, Serve, HashNext, Boot, bus_after, work_on, work_off, lost_answer, work_operations}
+use Rattle.ec_model.specs.Work.{After, Work, Serve, HashNext, Boot, is_power_on, bus_after, work_on, work_off, lost_answer, work_operations}
 use Rattle.ec_model.specs.Erasing.{with_job}
 use Rattle.ec_model.specs.WholeStep.{worked, worked_off}
 
@@ -30,14 +30,9 @@ after_unread core bus lost (Answered after status body) =
 after_unread core bus lost Restarts =
     record { table = booted_table core.flash core.pin (kind_of bus.state) Cold true; answer = lost }
 
--- whether a request reads the flash: its row does, or it restarts the controller
-abbrev pub outcome_reads : Bool → Outcome → Bool
-outcome_reads reads (Answered after status body) = reads
-outcome_reads reads Restarts = true
-
--- whether some work reads the flash
+-- whether some work reads the flash: a request does where its row does or where it restarts the controller
 abbrev pub work_reads : Core → ℕ → Work → Bool
-work_reads core limit (Serve request) = outcome_reads (handled_reads core limit request) (handled core limit request)
+work_reads core limit (Serve request) = handled_reads core limit request || is_restart (handled core limit request)
 work_reads core limit HashNext = true
 work_reads core limit (Boot cause) = true
 work_reads core limit other = false
@@ -84,16 +79,12 @@ WorkLeaves Whole core bus lost work after = after ≡ worked core bus lost work
 WorkLeaves Failed core bus lost work after = IsUnread core bus lost work after ⊎ IsUnfinished core bus work after
 WorkLeaves Cut core bus lost work after = IsCutOff core bus lost work after
 
--- what a boot from off may leave, where the stored bits could not be read
-abbrev pub BootsUnread : Table → Work → After → Type 0
-BootsUnread table (Boot cause) after =
-    after ≡ record { table = booted_table table.flash table.pin table.kind cause true; answer = 0 }
-BootsUnread table other after = ⊥
-
--- what the work may leave, where the controller is off
+-- what an event may leave, where the controller is off: a boot may not be able to read the stored bits
 abbrev pub OffLeaves : Hurt → Table → Event → After → Type 0
 OffLeaves Whole table event after = after ≡ worked_off table event (work_off event)
-OffLeaves Failed table event after = BootsUnread table (work_off event) after
+OffLeaves Failed table event after =
+    IsTrue (is_power_on event)
+    × (after ≡ record { table = booted_table table.flash table.pin table.kind PowerOn true; answer = 0 })
 OffLeaves Cut table event after = ⊥
 
 -- what an event may leave, by whether the controller is on

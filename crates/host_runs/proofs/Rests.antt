@@ -101,12 +101,7 @@ off-rests Whole table (Reset cause) after off leaves = rests-as after _ leaves (
 off-rests Whole table (PowerEvent true) after off leaves = rests-as after _ leaves (fresh-rests table.kind)
 off-rests Whole table (PowerEvent false) after off leaves = rests-as after _ leaves (ap (λ (power : Power). is_waiting power) off)
 off-rests Whole table (PinEvent on) after off leaves = rests-as after _ leaves refl
-off-rests Failed table (AccessEvent access) after off leaves = absurd leaves
-off-rests Failed table Tick after off leaves = absurd leaves
-off-rests Failed table (Reset cause) after off leaves = absurd leaves
-off-rests Failed table (PowerEvent true) after off leaves = rests-as after _ leaves (fresh-rests table.kind)
-off-rests Failed table (PowerEvent false) after off leaves = absurd leaves
-off-rests Failed table (PinEvent on) after off leaves = absurd leaves
+off-rests Failed table event after off leaves = rests-as after _ leaves.1 (fresh-rests table.kind)
 
 -- a tick, whatever waited before
 tick-by : (hurt : Hurt) (table : Table) (power : Power) (after : After) → table.power ≡ power → EventLeavesBy hurt table Tick power after → Rests after.table
