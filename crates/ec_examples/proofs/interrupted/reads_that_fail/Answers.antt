@@ -8,4 +8,4 @@ pub returns-clause-hash : goal.returns-clause-hash
 returns-clause-hash c = inl (record { reads = refl; leaves = refl })
 
 pub returns-clause-boot : goal.returns-clause-boot
-returns-clause-boot c = refl
+returns-clause-boot c = (refl, refl)
