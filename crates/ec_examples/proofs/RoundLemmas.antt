@@ -1,15 +1,15 @@
 -- Rounds on I2C, by their first command.
-use Rattle.std.proofs.Common.{◌≡◌, refl, sym, subst, ap, ◌∙◌, ℕ, ◌==◌, Bool, true, false, ◌||◌, List, [], ◌∷◌, ◌++◌, take}
+use Rattle.std.proofs.Common.{◌≡◌, refl, sym, subst, ap, ◌∙◌, ℕ, ◌==◌, Bool, true, false, ◌||◌, List, [], ◌∷◌, ◌++◌, take, length, arith}
 use Rattle.std.specs.List.{list_any}
 use Rattle.std.proofs.lemmas.List.Folds.{list_any-append}
 use Rattle.ec_types.specs.declared.bus.BusKind.TheVariants.{I2c}
-use Rattle.ec_model.specs.declared.event.Access.TheVariants.{I2cWrite}
+use Rattle.ec_model.specs.declared.event.Access.TheVariants.{I2cStartWrite, I2cWrite}
 use Rattle.ec_model.specs.declared.event.Entry.{Entry}
 use Rattle.ec_model.specs.HostCalls.{HostCall, Did, HostView, calls_of, are_calls, view_after}
-use Rattle.ec_model.specs.Heard.{Reply}
+use Rattle.ec_model.specs.Heard.{Reply, i2c_writes}
 use Rattle.ec_model.specs.SendI2c.{I2cWasServed}
 use Rattle.ec_model.specs.Send.{Send}
-use Rattle.ec_model.specs.Asks.{Status, Unsent, unsent, IsSent, AsksBy}
+use Rattle.ec_model.specs.Asks.{packet_of, Status, Unsent, unsent, IsSent, AsksBy}
 use Rattle.ec_model.specs.Tries.{Tries, Answered, Final}
 use Rattle.ec_model.specs.Rounds.{AsksNoProtocol, IsRound, protocol_request as protocol_asked}
 use Rattle.ec_examples.specs.I2cExchanges.{stopped, i2c_exchange, protocol_request, protocol_response, short_round}
@@ -26,11 +26,18 @@ met true middle after is none = cc
 met false true after is none = cc
 met false false after is none = cc
 
+-- a request that was written has it
+sum-written : (gots : List ℕ) → length gots ≡ 9 → list_any is_protocol_sum (Did I2cStartWrite 0 ∷ i2c_writes (0xDA ∷ packet_of protocol_asked) gots) ≡ true
+sum-written [] size = absurd (omega (arith, size))
+sum-written (a ∷ []) size = absurd (omega (arith, size))
+sum-written (a ∷ b ∷ []) size = absurd (omega (arith, size))
+sum-written (a ∷ b ∷ c ∷ gots) size = refl
+
 -- where no call writes it, nothing asks for the protocol
 pub none-asked : (entries : List Entry) → list_any is_protocol_sum (calls_of entries) ≡ false → AsksNoProtocol I2c entries
 none-asked entries none before asked after parts asks =
     met (list_any is_protocol_sum (calls_of before)) (list_any is_protocol_sum (calls_of asked)) (list_any is_protocol_sum (calls_of after))
-    (ap (list_any is_protocol_sum) asks.made)
+    (ap (list_any is_protocol_sum) asks.made ∙ sum-written asks.gots asks.each)
     (sym (ap (list_any is_protocol_sum) (ap calls_of parts ∙ calls_of-append (before ++ asked) after ∙ ap (λ (calls : List HostCall). calls ++ calls_of after) (calls_of-append before asked))
     ∙ list_any-append is_protocol_sum (calls_of before ++ calls_of asked) (calls_of after)
     ∙ ap (λ (found : Bool). found || list_any is_protocol_sum (calls_of after)) (list_any-append is_protocol_sum (calls_of before) (calls_of asked)))

@@ -12,13 +12,13 @@ use Rattle.ec_model.specs.HostCalls.{HostCall, Did, Waited, calls_of, are_calls}
 use Rattle.ec_model.specs.Upset.{IsUndisturbed, has_one_byte}
 use Rattle.ec_model.specs.Heard.{Heard, Reply, poll_end, spaced_reads}
 use Rattle.ec_model.specs.SendLpc.{status_in, LpcAsked, LpcBlocked, LpcSend}
-use Rattle.ec_model.specs.SendI2c.{I2cAsked, I2cUnstarted, I2cUnwritten, I2cSend}
+use Rattle.ec_model.specs.SendI2c.{I2cAsked, I2cPut, I2cUnstarted, I2cUnwritten, I2cSend}
 use Rattle.ec_model.specs.SendSpi.{SpiAsked, SpiSend}
 
 -- the packet was put on the bus, by the bus
 abbrev pub AskedBy : BusKind → List ℕ → List HostCall → Type 0
 AskedBy Lpc packet calls = LpcAsked packet calls
-AskedBy I2c packet calls = I2cAsked packet calls
+AskedBy I2c packet calls = I2cPut packet calls
 AskedBy Spi packet calls = SpiAsked packet calls
 
 -- one send, by the bus

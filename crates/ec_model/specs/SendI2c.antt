@@ -8,6 +8,12 @@ use Rattle.ec_model.specs.Heard.{Heard, Bad, Silent, reads_in_row, i2c_writes, h
 pub record I2cAsked (packet : List ℕ) (calls : List HostCall) : Type 0 where
   pub made : calls ≡ Did I2cStartWrite 0 ∷ i2c_writes (0xDA ∷ packet) (replicate (1 + length packet) 0)
 
+-- I2C: all bytes were written, whatever was answered
+pub record I2cPut (packet : List ℕ) (calls : List HostCall) : Type 0 where
+  pub gots : List ℕ
+  pub each : length gots ≡ 1 + length packet
+  pub made : calls ≡ Did I2cStartWrite 0 ∷ i2c_writes (0xDA ∷ packet) gots
+
 -- I2C: the start was not taken
 pub record I2cUnstarted (calls : List HostCall) : Type 0 where
   pub got : ℕ

@@ -102,7 +102,7 @@ pub fn run<F: FlashDev, S: Source, K: Sink>(
     // Guarded RO is handed back as it came, whatever failed, was torn or was sent.
     ensures guard { KeepsRo result.journal.entries (F.seen flash).held (F.seen result.flash).held }
     // Once RO is guarded and while the pin stays asserted, it stays so, byte for byte, and each boot ends with RO running, locked
-    // where it was guarded.
+    // where it was guarded: a law of the definitions, of the states that the run of this journal passes.
     ensures guarded { GuardsRun result.journal.entries (F.seen flash).held }
     // At most as many entries failed as the flash counted faults, and at most as many were cut as it counted cuts.
     ensures faults { RoseBy (count_by is_failed_entry result.journal.entries) (F.seen flash).faults (F.seen result.flash).faults }
