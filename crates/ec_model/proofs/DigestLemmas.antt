@@ -12,7 +12,7 @@ use Rattle.ec_model.specs.Hash.{touched, is_hash_over, without_hash, IsKeptDiges
 use Rattle.ec_model.specs.Operations.{Operation, Program, Erase, operated, operated_all, operation_range, touched_by}
 use Rattle.ec_model.proofs.GuardLemmas.{IsAbove, AllAbove, length-operated, take-operated, length-anded}
 use Rattle.ec_model.proofs.GuardSteps.{if_cases}
-use Rattle.ec_model.proofs.GuardStep.{take-drop-take}
+use Rattle.ec_model.proofs.StoredLemmas.{take-drop-take}
 
 -- ranges that do not overlap: one ends where the other begins, or before
 beside : (first second : Range) → overlaps first second ≡ false → (second.at + second.size ≤ first.at) ⊎ (first.at + first.size ≤ second.at)

@@ -1,5 +1,5 @@
 -- Behind every row a digest that is shown was shown before, and its range stayed as it was.
-use Rattle.std.proofs.Common.{◌≡◌, refl, ℕ, ◌+◌, true, not, ◌||◌, ◌==◌, nat_lt, if◌then◌else◌, List, [], ◌∷◌, length, take, drop, arith, Option, Some, None, Result, Ok, Err, slice_index}
+use Rattle.std.proofs.Common.{◌≡◌, refl, ℕ, ◌+◌, Bool, true, false, not, ◌||◌, ◌==◌, nat_lt, if◌then◌else◌, List, [], ◌∷◌, length, take, drop, arith, Option, Some, None, Result, Ok, Err, slice_index}
 use Rattle.std.specs.Prelude.{is_none}
 use Rattle.std.specs.Bool.{⊤}
 use Rattle.ec_types.specs.LittleEndian.{u16_at, u32_at}
@@ -18,7 +18,7 @@ use Rattle.ec_model.specs.InfoRows.{mask_told, range_told, test_row}
 use Rattle.ec_model.specs.FlashRows.{read_refusal, write_refusal, written, flash_write_row, erase_refusal, flash_erase_row}
 use Rattle.ec_model.specs.ProtectRow.{protect_operations, locks_set, can_lock, protected}
 use Rattle.ec_model.specs.HashRow.{vboot_hash_row, hash_start_row, hash_asked, hash_range}
-use Rattle.ec_model.specs.Jump.{same_copy, is_denied, has_vector, kept_hash}
+use Rattle.ec_model.specs.Jump.{same_copy, is_denied, has_vector, kept_hash, keeps_all}
 use Rattle.ec_model.specs.RebootRow.{jump_row, reboot_row}
 use Rattle.ec_model.specs.Handle.{Admitted, row, row_of, asked, handled}
 use Rattle.ec_model.proofs.GuardSteps.{if_cases, accepted, and_parts, same_size}
@@ -99,12 +99,16 @@ kept-done Idle at size digest shown = cc
 kept-done (Busy place count left) at size digest shown = cc
 kept-done (Done place count shown_digest) at size digest shown = shown
 
+kept-all : (all : Bool) (hash : HashView) (at size : ℕ) (digest : List ℕ) → (if all then kept_hash hash else Idle) ≡ Done at size digest → hash ≡ Done at size digest
+kept-all true hash at size digest shown = kept-done hash at size digest shown
+kept-all false hash at size digest shown = cc
+
 jump-digests : (core : Core) (target : ImageCopy) → KeepsDigestsOutcome core (jump_row target core)
 jump-digests core target =
     if_cases (KeepsDigestsOutcome core) (same_copy target core.live.copy) _ _ (λ runs. digests-self core)
     (λ other. if_cases (KeepsDigestsOutcome core) (is_denied core target) _ _ (λ denied. digests-self core)
     (λ granted. if_cases (KeepsDigestsOutcome core) (not (has_vector core.flash target)) _ _ (λ outside. digests-self core)
-    (λ jumps at size digest shown. record { shown = kept-done core.live.hash at size digest shown; bytes = refl })))
+    (λ jumps at size digest shown. record { shown = kept-all (keeps_all core.flash core.live.copy) core.live.hash at size digest shown; bytes = refl })))
 
 reboot-digests : (core : Core) (body : List ℕ) → KeepsDigestsOutcome core (reboot_row core body)
 reboot-digests core body =

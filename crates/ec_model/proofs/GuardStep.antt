@@ -36,6 +36,7 @@ use Rattle.ec_model.specs.WholeStep.{worked, after_outcome}
 use Rattle.ec_model.specs.Step.{IsStep, after_unread, unread, unfinished, failed_core, error_replied, WorkLeaves, OffLeaves, EventLeavesBy}
 use Rattle.ec_model.proofs.GuardLemmas.{Leaves, leaves-refl, leaves-operated, leaves-stopped}
 use Rattle.ec_model.proofs.GuardSteps.{if_cases}
+use Rattle.ec_model.proofs.StoredLemmas.{take-drop-take, stored_in-take}
 use Rattle.ec_model.proofs.GuardWork.{IsSafe, work_operations-above, work_on-safe, spelled_from}
 use Rattle.ec_model.proofs.GuardRows.{Keeps, KeepsOutcome, keeps-self, same-touched, same-touched_by, row-keeps}
 
@@ -43,20 +44,15 @@ use Rattle.ec_model.proofs.GuardRows.{Keeps, KeepsOutcome, keeps-self, same-touc
 pub size_bound : (size : ℕ) → is_flash_size size ≡ true → 65536 ≤ size
 size_bound size allowed = grind (arith, eqb_tells)
 
--- a part of a front
-pub take-drop-take : (n p m : ℕ) (xs : List ℕ) → p + n ≤ m → take n (drop p (take m xs)) ≡ take n (drop p xs)
-take-drop-take n p m xs inside =
-    let split : m ≡ p + (m - p) = omega arith in
-    ap (λ (k : ℕ). take n (drop p (take k xs))) split ∙ ap (take n) (drop-take p (m - p) xs) ∙ take-take n (m - p) (drop p xs) (omega arith)
-
 -- the stored bits are among the bytes that are guarded
 pub stored-leaves : (old new : List ℕ) → 65536 ≤ length old → Leaves (length old / 2) old new → stored new ≡ stored old
 stored-leaves old new large leaves =
     let place = length old / 2 - block_size in
-    let inside : place + 8 ≤ length old / 2 = omega arith in
-    let here : take 8 (drop (length new / 2 - block_size) new) ≡ take 8 (drop place new) = ap (λ (n : ℕ). take 8 (drop (n / 2 - block_size) new)) leaves.size in
-    ap stored_in (here ∙ sym (take-drop-take 8 place (length old / 2) new inside)
-    ∙ ap (λ (bytes : List ℕ). take 8 (drop place bytes)) leaves.bytes ∙ take-drop-take 8 place (length old / 2) old inside)
+    let inside : place + 1024 ≤ length old / 2 = omega arith in
+    let front : (flash : List ℕ) → stored_in (drop place flash) ≡ stored_in (take 1024 (drop place (take (length old / 2) flash))) =
+    λ flash. sym (stored_in-take 1024 (drop place flash) (omega arith)) ∙ ap stored_in (sym (take-drop-take 1024 place (length old / 2) flash inside)) in
+    ap (λ (n : ℕ). stored_in (drop (n / 2 - block_size) new)) leaves.size
+    ∙ front new ∙ ap (λ (bytes : List ℕ). stored_in (take 1024 (drop place bytes))) leaves.bytes ∙ sym (front old)
 
 -- a table is guarded, and the guarded bytes are those of a flash
 pub record Kept (flash : List ℕ) (table : Table) : Type 0 where

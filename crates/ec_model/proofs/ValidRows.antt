@@ -1,5 +1,5 @@
 -- Every row keeps a valid core valid.
-use Rattle.std.proofs.Common.{◌≡◌, refl, sym, ap, ◌∙◌, subst, ℕ, ◌+◌, ◌*◌, ◌/◌, ◌%◌, ◌^◌, ◌≤◌, ◌<◌, Bool, true, false, not, ◌&&◌, ◌||◌, ◌==◌, nat_lt, nat_le, if◌then◌else◌, List, [], ◌∷◌, length, take, drop, arith, Option, Some, None, slice_index, length-take}
+use Rattle.std.proofs.Common.{◌≡◌, refl, sym, ap, ◌∙◌, subst, ℕ, ◌+◌, ◌-◌, ◌*◌, ◌/◌, ◌%◌, ◌^◌, ◌≤◌, ◌<◌, Bool, true, false, not, ◌&&◌, ◌||◌, ◌==◌, nat_lt, nat_le, if◌then◌else◌, List, [], ◌∷◌, length, take, drop, arith, lit<, Option, Some, None, slice_index, length-take}
 use Rattle.std.specs.Prelude.{is_none}
 use Rattle.std.specs.Bool.{⊤}
 use Rattle.std.proofs.lemmas.Bool.Decides.{leb_tells, eqb_tells}
@@ -15,19 +15,20 @@ use Rattle.ec_model.specs.Ranges.{Range, is_flash_size, region_range, ro_range, 
 use Rattle.ec_model.specs.Commands.{Command, known, is_spelled, is_write_spelled, Proto, Hello, Version, Chip, CmdVersions, Comms, Test, ProtoInfo, FlashInfo, FlashRead, FlashWrite, FlashErase, FlashProtect, RegionInfo, Sysinfo, VbootHash, Reboot, Resend}
 use Rattle.ec_model.specs.Table.{Core, IsErasable, IsHashable, is_blocked, ticks_of}
 use Rattle.ec_model.specs.Hash.{touched, is_hash_over, without_hash, with_hash}
-use Rattle.ec_model.specs.Operations.{Operation, Program, operation_range, operated_all, touched_by, after_operations}
+use Rattle.ec_model.specs.Operations.{Operation, Program, Erase, operation_range, operated_all, touched_by, after_operations}
 use Rattle.ec_model.specs.Answer.{Outcome, Answered, Restarts, done, unless_refused}
 use Rattle.ec_model.specs.InfoRows.{mask_told, range_told, test_row}
 use Rattle.ec_model.specs.FlashRows.{asked_range, read_refusal, write_refusal, written, flash_write_row, erase_refusal, flash_erase_row, is_whole_units}
-use Rattle.ec_model.specs.ProtectRow.{protect_operations, storing_operations, wanted, locks_set, can_lock, protected, is_asked}
-use Rattle.ec_model.specs.Stored.{stored, same_bits, ro_now_flag, all_now_flag}
+use Rattle.ec_model.specs.ProtectRow.{protect_operations, record_operations, storing_at, storing_operations, wanted, locks_set, can_lock, protected, is_asked}
+use Rattle.ec_model.specs.Stored.{AtBoot, stored, stored_block, slot_count, next_slot, has_place, mark2_bytes, same_bits, ro_now_flag, all_now_flag}
 use Rattle.ec_model.specs.HashRow.{vboot_hash_row, hash_start_row, hash_asked, hash_range, first_of_region}
-use Rattle.ec_model.specs.Jump.{same_copy, is_denied, has_vector, jumped, kept_hash}
+use Rattle.ec_model.specs.Jump.{same_copy, is_denied, has_vector, jumped, kept_hash, keeps_all}
 use Rattle.ec_model.specs.RebootRow.{jump_row, reboot_row}
 use Rattle.ec_model.specs.Handle.{row}
 use Rattle.ec_model.proofs.GuardLemmas.{AllAbove, leaves-operated, leaves-operated_all}
 use Rattle.ec_model.proofs.GuardSteps.{if_cases, accepted, and_parts, or_parts, not_false, not_true, same_size, refusal_cases, positive}
 use Rattle.ec_model.proofs.GuardStep.{size_bound}
+use Rattle.ec_model.proofs.StoredLemmas.{slots_end, next-least, placed}
 
 -- what holds of a controller that is on, but for its bus
 pub record IsCoreValid (core : Core) : Type 0 where
@@ -170,6 +171,18 @@ locks-valid mask flags core valid free =
     })
     (λ cannot. valid)
 
+-- the operations that write a record lie in the flash
+record-inside : (size place : ℕ) (bits : AtBoot) → place + 8 ≤ size → AllAbove 0 size (record_operations place bits)
+record-inside size place bits inside = (record { above = omega arith; inside = omega (arith, inside) }, (record { above = omega arith; inside = omega (arith, inside) }, tt))
+
+-- and so do those that store bits
+storing-inside : (size : ℕ) (block : List ℕ) (bits : AtBoot) → 65536 ≤ size → AllAbove 0 size (storing_at (size / 2 - block_size) block bits)
+storing-inside size block bits large =
+    if_cases (AllAbove 0 size) (has_place block) (record_operations (size / 2 - block_size + 8 + 8 * next_slot block) bits)
+    (Erase ((size / 2 - block_size) / block_size) ∷ Program (size / 2 - block_size) mark2_bytes ∷ record_operations (size / 2 - block_size + 8) bits)
+    (λ place. record-inside size (size / 2 - block_size + 8 + 8 * next_slot block) bits (omega (arith, large, next-least slot_count block, slots_end, (placed block place).below)))
+    (λ none. (record { above = omega arith; inside = omega (arith, large) }, (record { above = omega arith; inside = omega (arith, large) }, record-inside size (size / 2 - block_size + 8) bits (omega (arith, large)))))
+
 -- the operations of a protection lie in the flash
 pub protect-inside : (core : Core) (mask flags : ℕ) → IsCoreValid core → AllAbove 0 (length core.flash) (protect_operations core mask flags)
 protect-inside core mask flags valid =
@@ -177,7 +190,7 @@ protect-inside core mask flags valid =
     let bits = wanted mask flags (stored core.flash) in
     if_cases (AllAbove 0 (length core.flash)) (same_bits bits (stored core.flash) || core.live.ro_now) [] (storing_operations core.flash bits)
     (λ none. tt)
-    (λ some. (record { above = omega arith; inside = omega (arith, large) }, (record { above = omega arith; inside = omega (arith, large) }, tt)))
+    (λ some. storing-inside (length core.flash) (stored_block core.flash) bits large)
 
 protect-valid : (core : Core) (mask flags : ℕ) → IsCoreValid core → core.live.erase ≡ None → IsCoreValid (protected mask flags core)
 protect-valid core mask flags valid free =
@@ -197,13 +210,19 @@ jump-valid core target valid free =
       all_with_ro = valid.all_with_ro;
       jumped = λ rw_. refl;
       erase = subst (λ (job : Option EraseJob). IsErasable (length core.flash) (jumped target core).live job) (sym free) tt;
-      hash = kept_hashable core.live.hash core.nonce valid.hash;
-      saved = valid.saved;
+      hash = kept-valid (keeps_all core.flash core.live.copy) core.live.hash core.nonce valid.hash;
+      saved = saved-valid (keeps_all core.flash core.live.copy) core.live.saved valid.saved;
     }))) where
       kept_hashable : (hash : HashView) (nonce : List ℕ) → IsHashable (length core.flash) hash nonce → IsHashable (length core.flash) (kept_hash hash) []
       kept_hashable Idle nonce hashable = refl
       kept_hashable (Busy at size left) nonce hashable = refl
       kept_hashable (Done at size digest) nonce hashable = (hashable.0, hashable.1, hashable.2, refl)
+      kept-valid : (all : Bool) (hash : HashView) (nonce : List ℕ) → IsHashable (length core.flash) hash nonce → IsHashable (length core.flash) (if all then kept_hash hash else Idle) []
+      kept-valid true hash nonce hashable = kept_hashable hash nonce hashable
+      kept-valid false hash nonce hashable = refl
+      saved-valid : (all : Bool) (saved : ℕ) → saved < 2 ^ 16 → (if all then saved else 9) < 2 ^ 16
+      saved-valid true saved small = small
+      saved-valid false saved small = lit< tt
 
 -- what a range of a hash has to meet
 pub record IsHashRange (size : ℕ) (range : Range) : Type 0 where

@@ -1,5 +1,5 @@
 -- A bench: a controller with armed events and an armed cut, and the calls on it.
-use Rattle.std.specs.Prelude.{ℕ, ◌-◌, ◌==◌, Bool, nat_le, nat_lt, if◌then◌else◌, List, [], ◌∷◌, ◌++◌, length, Option, Some, None}
+use Rattle.std.specs.Prelude.{ℕ, ◌-◌, Bool, nat_le, nat_lt, if◌then◌else◌, List, [], ◌∷◌, ◌++◌, length, Option, None}
 use Rattle.flash_dev.specs.Counts.{Rose}
 use Rattle.ec_model.specs.declared.event.Access.{Access}
 use Rattle.ec_model.specs.declared.event.Event.{Event}
@@ -7,16 +7,12 @@ use Rattle.ec_model.specs.declared.event.Event.TheVariants as event
 use Rattle.ec_model.specs.declared.event.WorldEvent.{WorldEvent}
 use Rattle.ec_model.specs.declared.event.WorldEvent.TheVariants.{Reset, Power, Pin, Byte}
 use Rattle.ec_model.specs.Table.{Table}
+pub use Rattle.flash_dev.specs.Cuts.{ArmedCut, cut_at, cut_after}
 
 -- an armed event: before which access or wait from now it falls, and what it is
 pub record Armed : Type 0 where
   pub left : ℕ
   pub event : WorldEvent
-
--- an armed cut: in which flash operation from now it falls, and what it leaves of that one's first bytes
-pub record ArmedCut : Type 0 where
-  pub left : ℕ
-  pub torn : List ℕ
 
 -- a controller with what is armed, and what its flash counted of faults and of cuts of its own
 pub record Bench : Type 0 where
@@ -77,12 +73,3 @@ has_place armed = nat_lt (length armed) 64
 -- what is armed once one more event was to be armed: it falls behind the others that are due with it
 abbrev pub armed_behind : List Armed → ℕ → WorldEvent → List Armed
 armed_behind armed left event = if has_place armed then armed ++ record { left = left; event = event } ∷ [] else armed
-
--- the cut that is armed, where 0 stands for none
-abbrev pub cut_at : ℕ → List ℕ → Option ArmedCut
-cut_at left torn = if left == 0 then None else Some (record { left = left; torn = torn })
-
--- what is left of a cut behind so many operations: none where it fell
-abbrev pub cut_after : ℕ → Option ArmedCut → Option ArmedCut
-cut_after begun None = None
-cut_after begun (Some cut) = cut_at (cut.left - begun) cut.torn

@@ -1,5 +1,5 @@
 -- A jump from one image to the other.
-use Rattle.std.specs.Prelude.{ℕ, ◌+◌, Bool, true, false, not, ◌&&◌, nat_lt, nat_le, List, [], length, bit_or}
+use Rattle.std.specs.Prelude.{ℕ, ◌+◌, Bool, true, false, not, ◌&&◌, ◌==◌, nat_lt, nat_le, if◌then◌else◌, List, [], length, slice_index, bit_or}
 use Rattle.ec_types.specs.LittleEndian.{u32_at}
 use Rattle.ec_types.specs.declared.image.ImageCopy.{ImageCopy}
 use Rattle.ec_types.specs.declared.image.ImageCopy.TheVariants.{Ro, Rw}
@@ -49,10 +49,32 @@ abbrev pub kept_hash : HashView → HashView
 kept_hash (Done at size digest) = Done at size digest
 kept_hash other = Idle
 
+-- the version of the jump data that an image writes: RO's byte at 40 says 1 or 2, and any other means 3, which RW always writes
+abbrev pub jump_version : List ℕ → ImageCopy → ℕ
+jump_version flash Rw = 3
+jump_version flash Ro =
+    if slice_index flash 40 == 1 then 1 else
+    if slice_index flash 40 == 2 then 2 else
+    3
+
+-- whether the jump data that an image writes keeps more than the locks and the flags: that of version 1 does not
+abbrev pub keeps_all : List ℕ → ImageCopy → Bool
+keeps_all flash copy = not (jump_version flash copy == 1)
+
+-- the live state that jump data keeps
+abbrev pub kept_live : Bool → Live → Live
+kept_live all live =
+    record live {
+      pstate_bad = all && live.pstate_bad;
+      jump_off = all && live.jump_off;
+      saved = if all then live.saved else 9;
+      hash = if all then kept_hash live.hash else Idle;
+    }
+
+-- the live state behind a jump, by what was kept: the target runs
+abbrev pub arrived : ImageCopy → Live → Live
+arrived target kept = record kept { copy = target; flags = bit_or kept.flags sysjump; jumped = true }
+
 -- the core behind a jump
 abbrev pub jumped : ImageCopy → Core → Core
-jumped target core =
-    record core {
-      live = record core.live { copy = target; flags = bit_or core.live.flags sysjump; jumped = true; hash = kept_hash core.live.hash };
-      nonce = [];
-    }
+jumped target core = record core { live = arrived target (kept_live (keeps_all core.flash core.live.copy) core.live); nonce = [] }

@@ -37,7 +37,7 @@ pub record IsRound (setting : Setting) (view : HostView) (entries : List Entry) 
 
 -- the room of a round
 abbrev pub round_room : ℕ
-round_room = 1000000
+round_room = 4000000
 
 -- the parts are rounds, with room left for as many as may follow
 abbrev pub AreRounds : ℕ → BusKind → HostView → List (List Entry) → Type 0
