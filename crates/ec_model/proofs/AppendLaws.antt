@@ -19,7 +19,7 @@ use Rattle.ec_model.specs.Handle.{asked, handled, row_of, operations_by}
 use Rattle.ec_model.specs.Work.{After, Work, Serve, work_on, bus_after, lost_answer, work_operations}
 use Rattle.ec_model.specs.WholeStep.{worked, after_outcome}
 use Rattle.ec_model.specs.Step.{IsStep, WorkLeaves, EventLeavesBy, after_unread, unfinished, failed_core}
-use Rattle.ec_model.specs.Appending.{KeepsOrStores, AddsWhole}
+use Rattle.ec_model.specs.Appending.{AddsWhole}
 use Rattle.ec_model.proofs.GuardSteps.{if_cases}
 use Rattle.ec_model.proofs.GuardStep.{size_bound}
 use Rattle.ec_model.proofs.GuardLemmas.{leaves-stopped, leaves-operated_all}
@@ -35,6 +35,10 @@ flash_of core Restarts = core.flash
 -- no operation of none stops
 none-stops : (k : ℕ) (old new : List ℕ) → StopsAt k [] old new → ⊥
 none-stops k old new stops = cc
+
+-- the bits are stored as they were, or as a FLASH_PROTECT wants them
+abbrev pub KeepsOrStores : ℕ → ℕ → List ℕ → List ℕ → Type 0
+KeepsOrStores mask flags before after = (stored after ≡ stored before) ⊎ (stored after ≡ wanted mask flags (stored before))
 
 -- where the block of a flash begins
 abbrev block_at : List ℕ → ℕ
@@ -76,7 +80,7 @@ stopped-keeps core mask flags k after valid place stops = by (same_bits (wanted 
       (subst (λ (list : List Operation). StopsAt k list core.flash after) (operations-are core mask flags place changes) stops))
 
 -- all of them were done
-done-keeps : (core : Core) (mask flags : ℕ) → IsCoreValid core → has_place (stored_block core.flash) ≡ true → KeepsOrStores mask flags core.flash (operated_all (protect_operations core mask flags) core.flash)
+pub done-keeps : (core : Core) (mask flags : ℕ) → IsCoreValid core → has_place (stored_block core.flash) ≡ true → KeepsOrStores mask flags core.flash (operated_all (protect_operations core mask flags) core.flash)
 done-keeps core mask flags valid place = by (same_bits (wanted mask flags (stored core.flash)) (stored core.flash) || core.live.ro_now) refl where
   by : (b : Bool) → same_bits (wanted mask flags (stored core.flash)) (stored core.flash) || core.live.ro_now ≡ b → KeepsOrStores mask flags core.flash (operated_all (protect_operations core mask flags) core.flash)
   by true same = inl (ap (λ (list : List Operation). stored (operated_all list core.flash)) (none-are core mask flags same))
@@ -87,7 +91,7 @@ done-keeps core mask flags valid place = by (same_bits (wanted mask flags (store
       ∙ ap (λ (list : List Operation). stored_in (drop (block_at core.flash) (operated_all list core.flash))) (operations-are core mask flags place changes)
       ∙ record-done (block_at core.flash) (wanted mask flags (stored core.flash)) core.flash (roomy core valid place))
 
-same-flash : (mask flags : ℕ) (core : Core) → (locks_set mask flags core).flash ≡ core.flash
+pub same-flash : (mask flags : ℕ) (core : Core) → (locks_set mask flags core).flash ≡ core.flash
 same-flash mask flags core = if_cases (λ (c : Core). c.flash ≡ core.flash) (can_lock core) _ core (λ can. refl) (λ cannot. refl)
 
 -- what a request leaves that asks it
@@ -136,7 +140,7 @@ work-keeps Cut core bus lost mask flags version body request after valid place a
 
 -- every step
 pub step-adds : (old : Table) (event : Event) (answer meant seen : ℕ) (hurt : Hurt) (new : Table) → Valid old → IsStep old (Step event answer meant seen hurt) new → AddsWhole event old new
-step-adds old event answer meant seen hurt new valid step mask flags place serves =
+step-adds old event answer meant seen hurt new valid step mask flags serves place =
     let power : IsPowerValid (length old.flash) old.kind (On serves.awake) = subst (λ (p : Power). IsPowerValid (length old.flash) old.kind p) serves.on valid.power in
     let leaves : EventLeavesBy hurt old event (On serves.awake) (record { table = new; answer = answer }) =
     subst (λ (p : Power). EventLeavesBy hurt old event p (record { table = new; answer = answer })) serves.on step in

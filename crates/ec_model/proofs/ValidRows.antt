@@ -176,7 +176,7 @@ record-inside : (size place : ℕ) (bits : AtBoot) → place + 8 ≤ size → Al
 record-inside size place bits inside = (record { above = omega arith; inside = omega (arith, inside) }, (record { above = omega arith; inside = omega (arith, inside) }, tt))
 
 -- and so do those that store bits
-storing-inside : (size : ℕ) (block : List ℕ) (bits : AtBoot) → 65536 ≤ size → AllAbove 0 size (storing_at (size / 2 - block_size) block bits)
+pub storing-inside : (size : ℕ) (block : List ℕ) (bits : AtBoot) → 65536 ≤ size → AllAbove 0 size (storing_at (size / 2 - block_size) block bits)
 storing-inside size block bits large =
     if_cases (AllAbove 0 size) (has_place block) (record_operations (size / 2 - block_size + 8 + 8 * next_slot block) bits)
     (Erase ((size / 2 - block_size) / block_size) ∷ Program (size / 2 - block_size) mark2_bytes ∷ record_operations (size / 2 - block_size + 8) bits)

@@ -21,11 +21,11 @@ pub record ServesProtect (table : Table) (event : Event) (mask flags : ℕ) : Ty
   pub mask_is : u32_at 0 body ≡ mask
   pub flags_is : u32_at 4 body ≡ flags
 
--- the bits are stored as they were, or as a FLASH_PROTECT wants them
-abbrev pub KeepsOrStores : ℕ → ℕ → List ℕ → List ℕ → Type 0
-KeepsOrStores mask flags before after = (stored after ≡ stored before) ⊎ (stored after ≡ wanted mask flags (stored before))
+-- where a record has its place, the bits are as they were, or as a FLASH_PROTECT wants them
+abbrev pub AddsRecord : ℕ → ℕ → List ℕ → List ℕ → Type 0
+AddsRecord mask flags before after =
+    IsTrue (has_place (stored_block before)) → (stored after ≡ stored before) ⊎ (stored after ≡ wanted mask flags (stored before))
 
--- where a record has its place, a FLASH_PROTECT leaves the bits as they were, or as it wants them
+-- a FLASH_PROTECT that is served in an event adds its record so
 abbrev pub AddsWhole : Event → Table → Table → Type 0
-AddsWhole event old new =
-    (mask flags : ℕ) → IsTrue (has_place (stored_block old.flash)) → ServesProtect old event mask flags → KeepsOrStores mask flags old.flash new.flash
+AddsWhole event old new = (mask flags : ℕ) → ServesProtect old event mask flags → AddsRecord mask flags old.flash new.flash

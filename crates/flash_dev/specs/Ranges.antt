@@ -13,7 +13,7 @@ pub record Range : Type 0 where
 
 -- the sizes that a flash may have
 abbrev pub flash_sizes : List ℕ
-flash_sizes = 65536 ∷ 131072 ∷ 262144 ∷ 524288 ∷ 1048576 ∷ []
+flash_sizes = 65536 ∷ 131072 ∷ 262144 ∷ 524288 ∷ 1048576 ∷ 2097152 ∷ 4194304 ∷ []
 
 -- whether a flash may have this size
 abbrev pub is_flash_size : ℕ → Bool
