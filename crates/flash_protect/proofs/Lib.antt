@@ -1,2 +1,3 @@
+mod LockingLemmas
 mod StoringLemmas
 mod SettingLemmas

@@ -1,5 +1,6 @@
 -- What the calls of the protection read, store and lock.
-use Rattle.std.specs.Prelude.{◌≡◌, ℕ, suc, ◌+◌, ◌-◌, ◌≤◌, min, max, Bool, false, IsTrue, List, [], ◌∷◌, take, Option, Some, None, Result, Ok, Err}
+use Rattle.std.specs.Prelude.{◌≡◌, ℕ, suc, ◌+◌, ◌-◌, ◌*◌, ◌/◌, ◌%◌, ◌≤◌, min, max, Bool, false, IsTrue, if◌then◌else◌, List, [], ◌∷◌, length, take, Option, Some, None, Result, Ok, Err, ⊤}
+use Rattle.flash_dev.specs.Flash.{block_size}
 use Rattle.flash_dev.specs.Counts.{Rose, raised_by}
 use Rattle.flash_dev.specs.Device.{DeviceView}
 use Rattle.flash_dev.specs.declared.device.DevErr.{DevErr}
@@ -7,11 +8,12 @@ use Rattle.flash_dev.specs.declared.device.DevErr.TheVariants.{Failed}
 use Rattle.ec_types.specs.declared.image.ImageCopy.TheVariants.{Ro}
 use Rattle.ec_model.specs.declared.live.HashView.TheVariants.{Idle}
 use Rattle.ec_model.specs.declared.live.ProtectView.{ProtectView}
-use Rattle.ec_model.specs.Ranges.{Range}
-use Rattle.ec_model.specs.Stored.{stored_length}
+use Rattle.ec_model.specs.Ranges.{Range, pstate_range}
+use Rattle.ec_model.specs.declared.live.AtBoot.{AtBoot}
+use Rattle.ec_model.specs.Stored.{stored_length, stored_block, has_place, next_slot, mark2_bytes}
 use Rattle.ec_model.specs.Table.{Core}
-use Rattle.ec_model.specs.Operations.{Operation, StopsAt, operation_range, operated_all}
-use Rattle.ec_model.specs.ProtectRow.{protect_operations, protect_view, protected}
+use Rattle.ec_model.specs.Operations.{Operation, Program, Erase, StopsAt, operation_range}
+use Rattle.ec_model.specs.ProtectRow.{record_operations, protect_operations, protect_view, protected}
 use Rattle.flash_protect.specs.declared.protect.Protect.{Protect}
 
 -- the stored bits were looked at once; `unread` says that this failed
@@ -45,10 +47,29 @@ core_with protect pin flash =
       nonce = [];
     }
 
--- operations were done, or one of them did not end
-abbrev pub RanOn : {T : Type 0} → List Operation → List ℕ → List ℕ → Result T DevErr → Type 0
-RanOn operations before after (Ok x) = after ≡ operated_all operations before
-RanOn operations before after (Err error) = (place : ℕ) × StopsAt place operations before after
+-- where the next record goes, if it has a place
+abbrev pub record_place : List ℕ → Option ℕ
+record_place flash =
+    if has_place (stored_block flash) then Some ((pstate_range (length flash)).at + 8 + 8 * next_slot (stored_block flash)) else None
+
+-- how bits are stored in a block that begins at a place, by where the next record goes
+abbrev pub operations_at : ℕ → Option ℕ → AtBoot → List Operation
+operations_at at (Some place) bits = record_operations place bits
+operations_at at None bits = Erase (at / block_size) ∷ Program at mark2_bytes ∷ record_operations (at + 8) bits
+
+-- a record at this place, if it is one, lies in the block that begins at a place
+abbrev pub IsPlaceIn : ℕ → Option ℕ → Type 0
+IsPlaceIn at None = ⊤
+IsPlaceIn at (Some place) = (at ≤ place) × (place % 4 ≡ 0) × (place + 8 ≤ at + block_size)
+
+-- so many operations at most: two for a record, and four for a block that is begun anew
+abbrev pub IsFew : Option ℕ → ℕ → Type 0
+IsFew None begun = begun ≤ 4
+IsFew (Some place) begun = begun ≤ 2
+
+-- a range lies in the block that begins at a place
+abbrev pub IsRangeIn : ℕ → ℕ × ℕ → Type 0
+IsRangeIn at range = (at ≤ range.0) × (range.0 + range.1 ≤ at + block_size)
 
 -- the smallest range that has two others
 abbrev pub joined : Range → Range → Range

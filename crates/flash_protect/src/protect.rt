@@ -7,10 +7,11 @@ ghost use Rattle.ec_model.specs.Stored.{stored};
 ghost use Rattle.ec_model.specs.ProtectRow.{protect_view, locks_set};
 ghost use Rattle.flash_protect.specs.Spent.{Costs, RisesAtMost, hurt_of};
 ghost use Rattle.flash_protect.specs.Locking.{Locks, GrowsTo};
-ghost use Rattle.flash_protect.specs.Setting.{IsLookedAt, Sets, core_with};
+ghost use Rattle.flash_protect.specs.Setting.{IsLookedAt, IsPlaceIn, IsRangeIn, Sets, record_place, core_with};
+ghost use Rattle.ec_model.specs.Appending.{AddsRecord};
 
 use crate::shown::{asked, same, shown, wanted};
-use crate::stored::{read_bits, store_bits};
+use crate::stored::{Found, begun_range, find, store};
 use ec_model::{AtBoot, ProtectView};
 use flash_ctl::Ctl;
 use flash_dev::{DevErr, Failed, FlashDev};
@@ -52,14 +53,14 @@ impl Protect {
         ensures unpinned { IsTrue result.ro_now → IsTrue pin }
         ensures locks { Locks result ctl.new }
     {
-        let read = read_bits(ctl);
+        let read = find(ctl);
         let mut protect = Protect {
             ro_now: false,
             all_now: false,
             bad: read.is_err(),
         };
         let (ro, all) = match read {
-            Ok(bits) => (pin && bits.ro, pin && bits.ro && bits.all),
+            Ok(Found { bits, place: _ }) => (pin && bits.ro, pin && bits.ro && bits.all),
             Err(Failed) => (pin, false),
         };
         protect.grow(ctl, ro, all);
@@ -72,8 +73,8 @@ impl Protect {
         ensures locks { ctl.new.locks ≡ ctl.old.locks }
         ensures view { IfOk result (λ view. IfSome ctl.old.device.held (λ flash. view ≡ protect_view (core_with self.now pin flash))) }
     {
-        match read_bits(ctl) {
-            Ok(bits) => Ok(shown(self, pin, bits)),
+        match find(ctl) {
+            Ok(found) => Ok(shown(self, pin, found.bits)),
             Err(error) => Err(error),
         }
     }
@@ -105,26 +106,30 @@ impl Protect {
         &mut self,
         ctl: &mut Ctl<F>,
         pin: bool,
-        bits: AtBoot,
+        found: Found,
         mask: u32,
         flags: u32,
     ) -> (Option<(u32, u32)>, Result<ProtectView, DevErr>)
         requires locks { Locks self.old ctl.old }
-        requires bits { IfSome ctl.old.device.held (λ flash. stored flash ≡ bits) }
+        requires bits { IfSome ctl.old.device.held (λ flash. stored flash ≡ found.bits) }
+        requires place { IfSome ctl.old.device.held (λ flash. record_place flash ≡ found.place) }
+        requires inside { IsPlaceIn (ctl.old.device.extent / 2 - 4096) found.place }
         ensures told { Changes (λ before after. Sets mask flags pin self.old before self.new after result.0 result.1) ctl.old.device.held ctl.new.device.held }
         ensures grows { GrowsTo pin self.old self.new }
         ensures locks { Locks self.new ctl.new }
-        ensures range { IfSome result.0 (λ range. range ≡ (ctl.old.device.extent / 2 - 4096, 4096)) }
+        ensures range { IfSome result.0 (IsRangeIn (ctl.old.device.extent / 2 - 4096)) }
         ensures none { IsNone result.0 → ctl.new.device.wear ≡ ctl.old.device.wear }
-        ensures wear { RisesAtMost 2 ctl.old.device.wear ctl.new.device.wear }
+        ensures wear { RisesAtMost 4 ctl.old.device.wear ctl.new.device.wear }
         ensures spent { Costs (hurt_of result.1) 0 ctl.old.device ctl.new.device }
     {
-        let wish = wanted(mask, flags, bits);
-        if same(wish, bits) || self.ro_now {
-            return (None, Ok(self.finish(ctl, pin, bits, mask, flags)));
+        let wish = wanted(mask, flags, found.bits);
+        if same(wish, found.bits) || self.ro_now {
+            return (None, Ok(self.finish(ctl, pin, found.bits, mask, flags)));
         }
-        let range = Some((ctl.geometry().size() / 2 - 4096, 4096));
-        match store_bits(ctl, wish) {
+        let at = ctl.geometry().size() / 2 - 4096;
+        let (begun, result) = store(ctl, found.place, wish);
+        let range = Some(begun_range(at, found.place, begun));
+        match result {
             Ok(()) => (range, Ok(self.finish(ctl, pin, wish, mask, flags))),
             Err(error) => (range, Err(error)),
         }
@@ -144,13 +149,15 @@ impl Protect {
         ensures told { Changes (λ before after. Sets mask flags pin self.old before self.new after result.0 result.1) ctl.old.device.held ctl.new.device.held }
         ensures grows { GrowsTo pin self.old self.new }
         ensures locks { Locks self.new ctl.new }
-        ensures range { IfSome result.0 (λ range. range ≡ (ctl.old.device.extent / 2 - 4096, 4096)) }
+        // A record that has its place is added whole: the bits are as they were, or as is wanted, also where an operation does not end.
+        ensures whole { Changes (AddsRecord mask flags) ctl.old.device.held ctl.new.device.held }
+        ensures range { IfSome result.0 (IsRangeIn (ctl.old.device.extent / 2 - 4096)) }
         ensures none { IsNone result.0 → ctl.new.device.wear ≡ ctl.old.device.wear }
-        ensures wear { RisesAtMost 2 ctl.old.device.wear ctl.new.device.wear }
-        ensures spent { Costs (hurt_of result.1) 8 ctl.old.device ctl.new.device }
+        ensures wear { RisesAtMost 4 ctl.old.device.wear ctl.new.device.wear }
+        ensures spent { Costs (hurt_of result.1) 1024 ctl.old.device ctl.new.device }
     {
-        match read_bits(ctl) {
-            Ok(bits) => self.set_from(ctl, pin, bits, mask, flags),
+        match find(ctl) {
+            Ok(found) => self.set_from(ctl, pin, found, mask, flags),
             Err(Failed) => (None, Err(DevErr::Failed)),
         }
     }

@@ -1,30 +1,42 @@
-use Rattle.std.proofs.Common.{◌∙◌, sym}
+use Rattle.std.proofs.Common.{◌≡◌, ◌∙◌, sym, subst, ◌-◌, ◌/◌, Result}
+use Rattle.flash_dev.specs.declared.device.DevErr.{DevErr}
+use Rattle.flash_protect.specs.Setting.{operations_at}
+use Rattle.flash_protect.proofs.StoringLemmas.{BeganTold}
 use Rattle.flash_protect.proofs.SettingLemmas.{set-done, set-stopped}
 use Rattle.flash_protect.proofs.protect.Protect.set_from.Goals as goal
 
 pub returns-in-Ok-clause-told : goal.returns-in-Ok-clause-told
 returns-in-Ok-clause-told g c =
+    let size : c.size.result ≡ c.args.ctl.now.device.extent = c.size.ensures.size ∙ c.geometry.ensures.size in
     rw c.finish-in-Ok.ensures.device
-    (set-done c.args.mask c.args.flags c.args.pin c.args.self.now c.finish-in-Ok.new.self c.args.ctl.now.device.held c.store_bits.new.ctl.device.held c.size.result c.args.bits c.wanted-wish.result c.in-Ok.field-0 c.finish-in-Ok.result
+    (set-done c.args.mask c.args.flags c.args.pin c.args.self.now c.finish-in-Ok.new.self c.args.ctl.now.device.held c.store-begun.new.ctl.device.held c.args.ctl.now.device.extent c.args.found.place c.args.found.bits
+    c.wanted-wish.result c.store-begun.result.0 c.begun_range.result c.in-Ok.field-0 c.finish-in-Ok.result
     (record {
-      allowed = c.size.ensures.allowed;
-      size_is = rw (c.size.ensures.size ∙ c.geometry.ensures.size) c.geometry.ensures.whole;
+      allowed = rw (← size) c.size.ensures.allowed;
+      size_is = c.geometry.ensures.whole;
       bits_are = c.requires.bits;
+      place_is = c.requires.place;
       wish_is = c.wanted-wish.ensures;
       differ = sym c.same.ensures ∙ c.if-same.false;
       open_now = c.if-self.false;
     })
-    c.in-Ok.ensures.ran c.finish-in-Ok.ensures.done c.finish-in-Ok.ensures.shown)
+    (subst (λ (r : Result (Unit {0}) DevErr). BeganTold c.store-begun.result.0 (operations_at (c.args.ctl.now.device.extent / 2 - 4096) c.args.found.place c.wanted-wish.result) c.args.ctl.now.device.held c.store-begun.new.ctl.device.held r) c.in-Ok.is c.store-begun.ensures.ran)
+    (rw (← size) (c.begun_range.ensures.covers c.wanted-wish.result))
+    c.finish-in-Ok.ensures.done c.finish-in-Ok.ensures.shown)
 
 pub returns-in-Err-clause-told : goal.returns-in-Err-clause-told
 returns-in-Err-clause-told g c =
-    set-stopped c.args.mask c.args.flags c.args.pin c.args.self.now c.args.ctl.now.device.held c.store_bits.new.ctl.device.held c.size.result c.args.bits c.wanted-wish.result c.in-Err.error
+    let size : c.size.result ≡ c.args.ctl.now.device.extent = c.size.ensures.size ∙ c.geometry.ensures.size in
+    set-stopped c.args.mask c.args.flags c.args.pin c.args.self.now c.args.ctl.now.device.held c.store-begun.new.ctl.device.held c.args.ctl.now.device.extent c.args.found.place c.args.found.bits
+    c.wanted-wish.result c.store-begun.result.0 c.begun_range.result c.in-Err.error
     (record {
-      allowed = c.size.ensures.allowed;
-      size_is = rw (c.size.ensures.size ∙ c.geometry.ensures.size) c.geometry.ensures.whole;
+      allowed = rw (← size) c.size.ensures.allowed;
+      size_is = c.geometry.ensures.whole;
       bits_are = c.requires.bits;
+      place_is = c.requires.place;
       wish_is = c.wanted-wish.ensures;
       differ = sym c.same.ensures ∙ c.if-same.false;
       open_now = c.if-self.false;
     })
-    c.in-Err.ensures.ran
+    (subst (λ (r : Result (Unit {0}) DevErr). BeganTold c.store-begun.result.0 (operations_at (c.args.ctl.now.device.extent / 2 - 4096) c.args.found.place c.wanted-wish.result) c.args.ctl.now.device.held c.store-begun.new.ctl.device.held r) c.in-Err.is c.store-begun.ensures.ran)
+    (rw (← size) (c.begun_range.ensures.covers c.wanted-wish.result))
