@@ -22,7 +22,7 @@ use Rattle.ec_model.specs.ProtectRow.{flash_protect_row, protect_operations, pro
 use Rattle.ec_model.specs.Answer.{Answered}
 use Rattle.ec_boot.specs.States.{RunView, core_at, told_core}
 use Rattle.ec_boot.specs.Ran.{IsStopped, IsProtected, WearsAtMost}
-use Rattle.flash_protect.specs.Spent.{RisesAtMost, hurt_of}
+use Rattle.ec_model.specs.Spent.{RisesAtMost, hurt_of}
 use Rattle.command_table.specs.Leaves.{Leaves, FoundLeaves, end_status}
 use Rattle.ec_boot.proofs.ProtectLemmas.{core_or}
 use Rattle.command_table.proofs.ToldLemmas.{changes-map}

@@ -1,6 +1,6 @@
 -- What FLASH_PROTECT does to a controller that is on and shows no hash.
-use Rattle.std.proofs.Common.{◌≡◌, refl, sym, ap, ◌∙◌, ℕ, suc, Bool, true, false, ◌&&◌, ◌||◌, if◌then◌else◌, List, [], ◌∷◌, take, length, slice_get, arith, inl, inr, Option, Some, None, Result, Ok, Err}
-use Rattle.std.specs.Prelude.{option_map, IsNone}
+use Rattle.std.proofs.Common.{◌≡◌, refl, sym, ap, ◌∙◌, subst, ℕ, suc, Bool, true, false, ◌&&◌, ◌||◌, if◌then◌else◌, List, [], ◌∷◌, take, length, slice_get, arith, inl, inr, Option, Some, None, Result, Ok, Err}
+use Rattle.std.specs.Prelude.{option_map, IfSome}
 use Rattle.flash_dev.specs.Told.{Changes}
 use Rattle.flash_dev.specs.declared.device.DevErr.{DevErr}
 use Rattle.flash_dev.specs.declared.device.DevErr.TheVariants.{Failed, PowerLost}
@@ -14,8 +14,8 @@ use Rattle.ec_model.specs.Hash.{is_hash_over, without_hash}
 use Rattle.ec_model.specs.Operations.{Operation, operation_range, operated_all, touched_by}
 use Rattle.ec_model.specs.ProtectRow.{protect_operations, protect_view, protected, locks_set, is_asked, wanted, storing_operations}
 use Rattle.flash_protect.specs.declared.protect.Protect.{Protect}
-use Rattle.flash_protect.specs.Spent.{RisesAtMost}
-use Rattle.flash_protect.specs.Setting.{Sets, IsStoppedIn, core_with, covering}
+use Rattle.ec_model.specs.Spent.{RisesAtMost}
+use Rattle.flash_protect.specs.Setting.{Sets, IsStoppedIn, core_with}
 use Rattle.ec_boot.specs.States.{core_at, told_core}
 use Rattle.ec_boot.specs.Ran.{IsStopped, IsProtected, WearsAtMost}
 use Rattle.ec_boot.proofs.OperatedLemmas.{run_of}
@@ -118,41 +118,19 @@ protect-told mask flags old new pin live protect range result idle bad told = by
   by (Some f) None set = set
   by (Some f) (Some g) set = lift mask flags pin live f g protect range result idle bad set
 
--- where operations were begun, there are two
-two-of : (core : Core) (mask flags : ℕ) → (protect_operations core mask flags ≡ [] → ⊥) → length (protect_operations core mask flags) ≡ 2
-two-of core mask flags some = by (same_bits (wanted mask flags (stored core.flash)) (stored core.flash) || core.live.ro_now) some where
-  by : (none : Bool) → ((if none then [] else storing_operations core.flash (wanted mask flags (stored core.flash))) ≡ [] → ⊥) →
-      length (if none then [] else storing_operations core.flash (wanted mask flags (stored core.flash))) ≡ 2
-  by true some = absurd (some refl)
-  by false some = refl
-
-begun-some : (mask flags : ℕ) (pin : Bool) (old new : Protect) (f g : List ℕ) (range : ℕ × ℕ) (result : Result ProtectView DevErr) → Sets mask flags pin old f new g (Some range) result →
-    protect_operations (core_with old pin f) mask flags ≡ [] → ⊥
-begun-some mask flags pin old new f g range (Ok view) set none =
-    let same : Some range ≡ None = set.begun ∙ ap covering none in cc
-begun-some mask flags pin old new f g range (Err error) set none =
-    let there : None ≡ Some set.stops.stopped = sym (ap (λ (list : List Operation). slice_get list set.place) none) ∙ set.stops.is_there in cc
-
-stays : (n before now : ℕ) → now ≡ before → RisesAtMost n before now
-stays n before now same = record { least = omega (arith, same); most = omega (arith, same) }
-
 -- the core that is told, or another
 abbrev pub core_or : Core → Option Core → Core
 core_or other None = other
 core_or other (Some core) = core
 
 -- FLASH_PROTECT wears the device by at most one for each operation
-pub protect-wears : (mask flags : ℕ) (old new : CtlView) (pin : Bool) (live : Live) (protect : Protect) (range : Option (ℕ × ℕ)) (result : Result ProtectView DevErr) →
-    Changes (λ before after. Sets mask flags pin (protect_of live) before protect after range result) old.device.held new.device.held →
-    (IsNone range → new.device.wear ≡ old.device.wear) → RisesAtMost 2 old.device.wear new.device.wear →
-    WearsAtMost (λ core. protect_operations core mask flags) (run_of old pin live) new.device.wear
-protect-wears mask flags old new pin live protect range result told none most core is = by range old.device.held new.device.held told none is where
-  by : (r : Option (ℕ × ℕ)) (o p : Option (List ℕ)) → Changes (λ before after. Sets mask flags pin (protect_of live) before protect after r result) o p →
-      (IsNone r → new.device.wear ≡ old.device.wear) → option_map (core_at (run_of old pin live)) o ≡ Some core → RisesAtMost (length (protect_operations core mask flags)) old.device.wear new.device.wear
-  by None o p told none is = stays (length (protect_operations core mask flags)) old.device.wear new.device.wear (none refl)
-  by (Some r) None p told none is = cc
-  by (Some r) (Some f) None told none is = absurd told
-  by (Some r) (Some f) (Some g) told none is =
-      let two : length (protect_operations (core_with (protect_of live) pin f) mask flags) ≡ 2 = two-of (core_with (protect_of live) pin f) mask flags (begun-some mask flags pin (protect_of live) protect f g r result told) in
-      let here : length (protect_operations core mask flags) ≡ 2 = sym (ap (λ (c : Option Core). length (protect_operations (core_or (core_with (protect_of live) pin f) c) mask flags)) is) ∙ two in
-      rw here most
+pub protect-wears : (mask flags : ℕ) (old : CtlView) (worn : ℕ) (pin : Bool) (live : Live) →
+    IfSome old.device.held (λ flash. RisesAtMost (length (protect_operations (core_with (protect_of live) pin flash) mask flags)) old.device.wear worn) →
+    WearsAtMost (λ core. protect_operations core mask flags) (run_of old pin live) worn
+protect-wears mask flags old worn pin live rises core is = by old.device.held rises is where
+  by : (o : Option (List ℕ)) → IfSome o (λ flash. RisesAtMost (length (protect_operations (core_with (protect_of live) pin flash) mask flags)) old.device.wear worn) →
+      option_map (core_at (run_of old pin live)) o ≡ Some core → RisesAtMost (length (protect_operations core mask flags)) old.device.wear worn
+  by None rises is = cc
+  by (Some f) rises is =
+      let same : core_at (run_of old pin live) f ≡ core = ap (core_or (core_at (run_of old pin live) f)) is in
+      subst (λ (c : Core). RisesAtMost (length (protect_operations c mask flags)) old.device.wear worn) same rises

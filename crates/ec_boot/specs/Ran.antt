@@ -7,7 +7,7 @@ use Rattle.ec_model.specs.Table.{Core}
 use Rattle.ec_model.specs.Operations.{Operation, StopsAt, operated_all, touched_by}
 use Rattle.ec_model.specs.ProtectRow.{protect_operations, protect_view, protected}
 use Rattle.ec_model.specs.Step.{failed_core}
-use Rattle.flash_protect.specs.Spent.{RisesAtMost}
+use Rattle.ec_model.specs.Spent.{RisesAtMost}
 use Rattle.ec_boot.specs.States.{RunView, told_core}
 
 -- an operation did not end: those before it are done

@@ -6,7 +6,7 @@ ghost use Rattle.ec_model.specs.Ranges.{is_flash_size};
 ghost use Rattle.ec_model.specs.Table.{IsErasable};
 ghost use Rattle.ec_model.specs.ProtectRow.{protect_operations};
 ghost use Rattle.flash_dev.specs.Told.{Changes};
-ghost use Rattle.flash_protect.specs.Spent.{Costs, RisesAtMost, hurt_of};
+ghost use Rattle.ec_model.specs.Spent.{Costs, RisesAtMost, hurt_of};
 ghost use Rattle.ec_boot.specs.States.{RunView, told_core, IsLiveValid, IsOperated};
 ghost use Rattle.ec_boot.specs.Ran.{IsProtected, WearsAtMost};
 ghost use Rattle.ec_boot.specs.Ticked.{IsTicked, LeavesTicked, tick_operations};
@@ -75,7 +75,7 @@ pub trait Running {
         ensures told { Changes (λ before after. IsProtected mask flags before after result) (told_core (run self.old)) (told_core (run self.new)) }
         ensures pin { (run self.new).pin ≡ (run self.old).pin }
         ensures wear { WearsAtMost (λ core. protect_operations core mask flags) (run self.old) (run self.new).device.wear }
-        ensures spent { Costs (hurt_of result) 8 (run self.old).device (run self.new).device }
+        ensures spent { Costs (hurt_of result) 1024 (run self.old).device (run self.new).device }
         ensures guard { Changes KeepsGuard (told_core (run self.old)) (told_core (run self.new)) };
 
     /// An erase of some blocks in a row begins, from the block `first` on: each tick that serves no request erases the next

@@ -15,7 +15,7 @@ use Rattle.ec_model.specs.WholeStep.{worked_off}
 use Rattle.ec_model.specs.Step.{WorkLeaves}
 use Rattle.ec_wire.specs.Dues.{asked_of}
 use Rattle.ec_boot.specs.States.{RunView, OffView, core_at, told_core, Follows}
-use Rattle.flash_protect.specs.Spent.{Costs, RisesAtMost}
+use Rattle.ec_model.specs.Spent.{Costs, RisesAtMost}
 use Rattle.ec_core.specs.View.{WearsBy}
 use Rattle.ec_core.specs.Held.{awake_of, up_table, down_table, held_table, held_pin, held_device, is_up, is_kept_up, IsCalm, IsSpent, IsSilent, EventTold, answer_by, on_behind}
 use Rattle.ec_core.specs.Task.{IsTakenUp, IsTakenDown, IsTaken, IsStepped, CanCarry, on_after_task, pin_after_task}

@@ -17,7 +17,7 @@ use Rattle.ec_model.specs.Work.{Work, After, idle_work, work_on, lost_answer, wo
 use Rattle.ec_model.specs.Step.{WorkLeaves}
 use Rattle.ec_boot.specs.States.{RunView, OffView, core_at, told_core, Follows}
 use Rattle.ec_boot.specs.Ticked.{IsTicked, tick_operations}
-use Rattle.flash_protect.specs.Spent.{Costs, RisesAtMost, hurt_of}
+use Rattle.ec_model.specs.Spent.{Costs, RisesAtMost, hurt_of}
 use Rattle.ec_core.specs.Held.{awake_of, up_table, down_table, answer_by}
 use Rattle.ec_core.specs.Task.{IsTakenUp, IsStepped}
 use Rattle.ec_core.specs.declared.held.Held.TheVariants.{Down, Up}

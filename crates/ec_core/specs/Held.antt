@@ -11,7 +11,7 @@ use Rattle.ec_model.specs.Bus.{BusState, due_now}
 use Rattle.ec_model.specs.Table.{Awake, Table, Valid, off_table, table_of}
 use Rattle.ec_model.specs.HostCalls.{on_after_event}
 use Rattle.ec_model.specs.Step.{EventLeaves}
-use Rattle.flash_protect.specs.Spent.{Costs}
+use Rattle.ec_model.specs.Spent.{Costs}
 use Rattle.ec_boot.specs.States.{RunView, OffView, core_at}
 use Rattle.ec_core.specs.declared.held.Held.{Held}
 use Rattle.ec_core.specs.declared.held.Held.TheVariants.{Down, Up}

@@ -17,6 +17,7 @@ memory_device memory = record {
   extent = length memory.bytes;
   faults = memory.calls.faults;
   cuts = 0;
+  refusals = memory.calls.faults;
   wear = memory.wear;
   fetched = memory.fetched;
 }

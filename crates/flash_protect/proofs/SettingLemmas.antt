@@ -2,16 +2,18 @@
 use Rattle.std.proofs.Common.{◌≡◌, refl, sym, ap, ◌∙◌, subst, ℕ, zero, suc, ◌+◌, ◌-◌, ◌*◌, ◌/◌, ◌≤◌, min, max, Bool, true, false, ◌||◌, if◌then◌else◌, List, [], ◌∷◌, take, drop, length, arith, lit<, inl, Option, Some, None, Result, Ok, Err}
 use Rattle.std.specs.Prelude.{IfSome, IsTrue, ◌⊎◌}
 use Rattle.std.proofs.lemmas.List.{take_all}
+use Rattle.std.proofs.lemmas.Option.{slice_get_within}
 use Rattle.std.proofs.lemmas.Bool.Decides.{eqb_tells}
 use Rattle.flash_dev.specs.Flash.{block_size}
 use Rattle.flash_dev.specs.Told.{Changes}
 use Rattle.flash_dev.specs.Ranges.{is_flash_size}
-use Rattle.flash_dev.specs.Operations.{Operation, Program, Erase, operated_all, StopsAt}
+use Rattle.flash_dev.specs.Operations.{Operation, Program, Erase, operated_all, StopsAt, Began}
 use Rattle.flash_dev.specs.declared.device.DevErr.{DevErr}
 use Rattle.ec_model.specs.declared.live.AtBoot.{AtBoot}
 use Rattle.ec_model.specs.declared.live.ProtectView.{ProtectView}
 use Rattle.ec_model.specs.Stored.{stored, stored_in, stored_block, has_place, next_slot, mark2_bytes, same_bits}
 use Rattle.ec_model.specs.Table.{Core}
+use Rattle.ec_model.specs.Spent.{RisesAtMost}
 use Rattle.ec_model.specs.Operations.{touched_by, after_operations}
 use Rattle.ec_model.specs.ProtectRow.{record_operations, storing_at, storing_operations, protect_operations, wanted, locks_set, protect_view}
 use Rattle.ec_model.specs.Appending.{AddsRecord}
@@ -123,6 +125,21 @@ set-stopped mask flags pin old (Some f) (Some g) size place bits wish begun rang
       begun = covers ∙ ap (λ (n : ℕ). covering (take n (operations_at (size / 2 - 4096) place wish))) began.1 ∙ ap (λ (list : List Operation). covering (take (suc began.0) list)) (sym here);
       same = refl;
     }
+
+began-most : {T : Type 0} (begun : ℕ) (operations : List Operation) (f g : List ℕ) (result : Result T DevErr) → Began begun operations f g result → begun ≤ length operations
+began-most begun operations f g (Ok x) began = omega (arith, began.0)
+began-most begun operations f g (Err error) began = omega (arith, began.1, slice_get_within operations began.0 began.2.stopped began.2.is_there)
+
+-- the device wears by at most one for each operation
+pub set-wears : (mask flags : ℕ) (pin : Bool) (old : Protect) (o p : Option (List ℕ)) (size : ℕ) (place : Option ℕ) (bits wish : AtBoot) (begun before now : ℕ) (result : Result (Unit {0}) DevErr) → IsChanging mask flags old o size place bits wish →
+    BeganTold begun (operations_at (size / 2 - 4096) place wish) o p result → RisesAtMost begun before now →
+    IfSome o (λ flash. RisesAtMost (length (protect_operations (core_with old pin flash) mask flags)) before now)
+set-wears mask flags pin old None p size place bits wish begun before now result is began rises = tt
+set-wears mask flags pin old (Some f) None size place bits wish begun before now result is began rises = absurd began
+set-wears mask flags pin old (Some f) (Some g) size place bits wish begun before now result is began rises =
+    let most = began-most begun (operations_at (size / 2 - 4096) place wish) f g result began in
+    let same : length (protect_operations (core_with old pin f) mask flags) ≡ length (operations_at (size / 2 - 4096) place wish) = ap (λ (list : List Operation). length list) (here-are mask flags pin old size place bits wish f is) in
+    record { least = rises.least; most = omega (arith, rises.most, most, same) }
 
 -- what is stored once all operations were done
 stored-after : (size : ℕ) (bits : AtBoot) (flash after : List ℕ) → IsSized size → length flash ≡ size → after ≡ operated_all (storing_operations flash bits) flash → stored after ≡ bits

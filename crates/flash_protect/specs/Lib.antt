@@ -1,3 +1,2 @@
-pub mod Spent
 pub mod Locking
 pub mod Setting

@@ -23,6 +23,7 @@ pub record IsLookedAt (unread : Bool) (old new : DeviceView) : Type 0 where
   pub faults : old.faults ≤ new.faults
   pub failed : IsTrue unread → Rose old.faults new.faults
   pub cuts : old.cuts ≤ new.cuts
+  pub refusals : new.refusals ≡ (if unread then raised_by 1 old.refusals else old.refusals)
   pub wear : new.wear ≡ old.wear
   pub fetched : new.fetched ≡ raised_by stored_length old.fetched
 

@@ -1,11 +1,11 @@
 // The protection of a controller that is on.
-ghost use Rattle.std.specs.Prelude.{◌≡◌, ◌||◌, ◌/◌, ◌-◌, false, true, List, ℕ, is_err, IfOk, IfSome, IsNone, IsTrue};
+ghost use Rattle.std.specs.Prelude.{◌≡◌, ◌||◌, ◌/◌, ◌-◌, false, true, List, ℕ, is_err, length, IfOk, IfSome, IsNone, IsTrue};
 ghost use Rattle.flash_dev.specs.Told.{Changes};
 ghost use Rattle.flash_ctl.specs.Locks.{no_locks};
 ghost use Rattle.ec_model.specs.Boot.{boots_ro_locked, boots_all_locked};
 ghost use Rattle.ec_model.specs.Stored.{stored};
-ghost use Rattle.ec_model.specs.ProtectRow.{protect_view, locks_set};
-ghost use Rattle.flash_protect.specs.Spent.{Costs, RisesAtMost, hurt_of};
+ghost use Rattle.ec_model.specs.ProtectRow.{protect_operations, protect_view, locks_set};
+ghost use Rattle.ec_model.specs.Spent.{Costs, RisesAtMost, hurt_of};
 ghost use Rattle.flash_protect.specs.Locking.{Locks, GrowsTo};
 ghost use Rattle.flash_protect.specs.Setting.{IsLookedAt, IsPlaceIn, IsRangeIn, Sets, record_place, core_with};
 ghost use Rattle.ec_model.specs.Appending.{AddsRecord};
@@ -119,7 +119,8 @@ impl Protect {
         ensures locks { Locks self.new ctl.new }
         ensures range { IfSome result.0 (IsRangeIn (ctl.old.device.extent / 2 - 4096)) }
         ensures none { IsNone result.0 → ctl.new.device.wear ≡ ctl.old.device.wear }
-        ensures wear { RisesAtMost 4 ctl.old.device.wear ctl.new.device.wear }
+        ensures wear { IfSome ctl.old.device.held (λ flash. RisesAtMost (length (protect_operations (core_with self.old pin flash) mask flags)) ctl.old.device.wear ctl.new.device.wear) }
+        ensures most { RisesAtMost 4 ctl.old.device.wear ctl.new.device.wear }
         ensures spent { Costs (hurt_of result.1) 0 ctl.old.device ctl.new.device }
     {
         let wish = wanted(mask, flags, found.bits);
@@ -153,7 +154,8 @@ impl Protect {
         ensures whole { Changes (AddsRecord mask flags) ctl.old.device.held ctl.new.device.held }
         ensures range { IfSome result.0 (IsRangeIn (ctl.old.device.extent / 2 - 4096)) }
         ensures none { IsNone result.0 → ctl.new.device.wear ≡ ctl.old.device.wear }
-        ensures wear { RisesAtMost 4 ctl.old.device.wear ctl.new.device.wear }
+        ensures wear { IfSome ctl.old.device.held (λ flash. RisesAtMost (length (protect_operations (core_with self.old pin flash) mask flags)) ctl.old.device.wear ctl.new.device.wear) }
+        ensures most { RisesAtMost 4 ctl.old.device.wear ctl.new.device.wear }
         ensures spent { Costs (hurt_of result.1) 1024 ctl.old.device ctl.new.device }
     {
         match find(ctl) {

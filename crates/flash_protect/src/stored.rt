@@ -9,7 +9,7 @@ ghost use Rattle.flash_ctl.specs.Locks.{no_locks};
 ghost use Rattle.ec_model.specs.declared.live.AtBoot.{AtBoot};
 ghost use Rattle.ec_model.specs.Stored.{stored};
 ghost use Rattle.ec_model.specs.ProtectRow.{record_operations};
-ghost use Rattle.flash_protect.specs.Spent.{Costs, RisesAtMost, hurt_of};
+ghost use Rattle.ec_model.specs.Spent.{Costs, RisesAtMost, hurt_of};
 ghost use Rattle.flash_protect.specs.Setting.{IsLookedAt, IsPlaceIn, IsFew, IsRangeIn, record_place, operations_at, covering};
 
 use crate::block::{self, MARK, READ_LENGTH};
@@ -91,7 +91,7 @@ fn write_record<F: FlashDev>(
     ensures some { 1 ≤ result.0 }
     ensures few { result.0 ≤ 2 }
     ensures locks { ctl.new.locks ≡ no_locks }
-    ensures wear { RisesAtMost 2 ctl.old.device.wear ctl.new.device.wear }
+    ensures wear { RisesAtMost result.0 ctl.old.device.wear ctl.new.device.wear }
     ensures spent { Costs (hurt_of result.1) 0 ctl.old.device ctl.new.device }
 {
     let word = program_free(ctl, place, &block::word(bits));
@@ -112,7 +112,7 @@ fn begin_anew<F: FlashDev>(ctl: &mut Ctl<F>, at: u32, bits: AtBoot) -> (u32, Res
     ensures some { 1 ≤ result.0 }
     ensures few { result.0 ≤ 4 }
     ensures locks { ctl.new.locks ≡ no_locks }
-    ensures wear { RisesAtMost 4 ctl.old.device.wear ctl.new.device.wear }
+    ensures wear { RisesAtMost result.0 ctl.old.device.wear ctl.new.device.wear }
     ensures spent { Costs (hurt_of result.1) 0 ctl.old.device ctl.new.device }
 {
     let erased = erase_free(ctl, at / 4096);
@@ -140,7 +140,7 @@ pub fn store<F: FlashDev>(
     ensures some { 1 ≤ result.0 }
     ensures few { IsFew place result.0 }
     ensures locks { ctl.new.locks ≡ no_locks }
-    ensures wear { RisesAtMost 4 ctl.old.device.wear ctl.new.device.wear }
+    ensures wear { RisesAtMost result.0 ctl.old.device.wear ctl.new.device.wear }
     ensures spent { Costs (hurt_of result.1) 0 ctl.old.device ctl.new.device }
 {
     let at = ctl.geometry().size() / 2 - 4096;

@@ -12,8 +12,7 @@ returns-clause-told g c =
 pub returns-clause-wear : goal.returns-clause-wear
 returns-clause-wear g c =
     rw (← c.self.view_is)
-    (protect-wears c.args.mask c.args.flags c.self.inside.ctl c.set-range.new.ctl c.self.inside.pin c.self.inside.live c.set-range.new.self c.set-range.result.0 c.set-range.result.1
-    c.set-range.ensures.told c.set-range.ensures.none c.set-range.ensures.wear)
+    (protect-wears c.args.mask c.args.flags c.self.inside.ctl c.set-range.new.ctl.device.wear c.self.inside.pin c.self.inside.live c.set-range.ensures.wear)
 
 pub returns-clause-guard : goal.returns-clause-guard
 returns-clause-guard g c =
