@@ -49,15 +49,50 @@ pub fn versions_of_jump_data()
 /// Version 1 keeps the locks and the flags alone. Version 2 keeps all else too, but of the hash only a finished one.
 pub fn jumps_by_their_version()
     ensures one { (jumped Rw (before_jump (with_version 1 e64) (Done 0x8000 4 (replicate 32 7)))).live ≡
-        record { copy = Rw; flags = 0x408; jumped = true; ro_now = true; all_now = false; pstate_bad = false; jump_off = false; hash = Idle; erase = None; saved = 9 } }
+        record {
+          copy = Rw;
+          flags = 0x408;
+          jumped = true;
+          ro_now = true;
+          all_now = false;
+          pstate_bad = false;
+          jump_off = false;
+          hash = Idle;
+          erase = None;
+          saved = 9;
+        } }
     ensures two { (jumped Rw (before_jump (with_version 2 e64) (Done 0x8000 4 (replicate 32 7)))).live ≡
-        record { copy = Rw; flags = 0x408; jumped = true; ro_now = true; all_now = false; pstate_bad = true; jump_off = true; hash = Done 0x8000 4 (replicate 32 7); erase = None; saved = 0 } }
+        record {
+          copy = Rw;
+          flags = 0x408;
+          jumped = true;
+          ro_now = true;
+          all_now = false;
+          pstate_bad = true;
+          jump_off = true;
+          hash = Done 0x8000 4 (replicate 32 7);
+          erase = None;
+          saved = 0;
+        } }
     ensures busy { (jumped Rw (before_jump (with_version 2 e64) (Busy 0x8000 4 1))).live ≡
-        record { copy = Rw; flags = 0x408; jumped = true; ro_now = true; all_now = false; pstate_bad = true; jump_off = true; hash = Idle; erase = None; saved = 0 } }
+        record {
+          copy = Rw;
+          flags = 0x408;
+          jumped = true;
+          ro_now = true;
+          all_now = false;
+          pstate_bad = true;
+          jump_off = true;
+          hash = Idle;
+          erase = None;
+          saved = 0;
+        } }
 {}
 
 /// So the saved status of an erase is told behind a jump from RO, but not where RO writes version 1.
 pub fn saved_status_over_a_jump()
-    ensures kept { replies ((Reboot, 0, reboot_ask 2 0) ∷ (Resend, 0, []) ∷ []) (with_job None 0 (on (with_image (with_version 2 e64)))) ≡ (0, []) ∷ (0, []) ∷ [] }
-    ensures lost { replies ((Reboot, 0, reboot_ask 2 0) ∷ (Resend, 0, []) ∷ []) (with_job None 0 (on (with_image (with_version 1 e64)))) ≡ (0, []) ∷ (9, []) ∷ [] }
+    ensures kept { replies ((Reboot, 0, reboot_ask 2 0) ∷ (Resend, 0, []) ∷ [])
+        (with_job None 0 (on (with_image (with_version 2 e64)))) ≡ (0, []) ∷ (0, []) ∷ [] }
+    ensures lost { replies ((Reboot, 0, reboot_ask 2 0) ∷ (Resend, 0, []) ∷ [])
+        (with_job None 0 (on (with_image (with_version 1 e64)))) ≡ (0, []) ∷ (9, []) ∷ [] }
 {}

@@ -12,6 +12,7 @@ ghost use Rattle.ec_examples.specs.Cores.{on, reset};
 ghost use Rattle.ec_examples.specs.Replies.{replies, core_after};
 
 /// On an erased flash the lock of RO is stored at once, and holds from the next reset on.
+#[tactic(auto, unfolding(ec_model::specs::Stored::slot_count))]
 pub fn lock_at_boot_is_set()
     ensures before { replies ((FlashProtect, 1, flash_protect_ask 0 0) ∷ (FlashProtect, 1, flash_protect_ask 1 1) ∷ []) (on e64) ≡
         (0, flash_protect_say 0x08 0x6F 0x41) ∷ (0, flash_protect_say 0x09 0x6F 0x47) ∷ [] }
@@ -27,7 +28,8 @@ pub fn lock_at_boot_is_set()
 /// they change and RO is not locked.
 pub fn bits_are_stored_by_four_operations()
     ensures changed { protect_operations (on e64) 0x41 0x41 ≡
-        Erase 7 ∷ Program 0x7000 (0x50 ∷ 0x53 ∷ 0x54 ∷ 0x32 ∷ 0 ∷ 0 ∷ 0 ∷ 0 ∷ []) ∷ Program 0x7008 (0x41 ∷ 0 ∷ 0 ∷ 0 ∷ []) ∷ Program 0x700C (0 ∷ 0 ∷ 0 ∷ 0 ∷ []) ∷ [] }
+        Erase 7 ∷ Program 0x7000 (0x50 ∷ 0x53 ∷ 0x54 ∷ 0x32 ∷ 0 ∷ 0 ∷ 0 ∷ 0 ∷ [])
+        ∷ Program 0x7008 (0x41 ∷ 0 ∷ 0 ∷ 0 ∷ []) ∷ Program 0x700C (0 ∷ 0 ∷ 0 ∷ 0 ∷ []) ∷ [] }
     ensures unchanged { protect_operations (on e64) 1 0 ≡ [] }
     ensures locked { protect_operations (on g64) 1 0 ≡ [] }
 {}
@@ -44,6 +46,7 @@ pub fn locks_are_only_set()
 
 /// With the lock at boot stored in the same command, RO_NOW and ALL_NOW are granted; without it they are not, and the status
 /// is 0 all the same.
+#[tactic(auto, unfolding(ec_model::specs::Stored::slot_count))]
 pub fn locks_need_the_lock_at_boot()
     ensures together { replies ((FlashProtect, 1, flash_protect_ask 3 3) ∷ []) (on e64) ≡ (0, flash_protect_say 0x0B 0x6F 0x04) ∷ [] }
     ensures alone { replies ((FlashProtect, 1, flash_protect_ask 6 6) ∷ []) (on e64) ≡ (0, flash_protect_say 0x08 0x6F 0x41) ∷ [] }
@@ -59,10 +62,13 @@ pub fn boot_that_cannot_read()
     ensures { replies ((FlashProtect, 1, flash_protect_ask 0 0) ∷ []) (booted e64 true PowerOn true) ≡ (0, flash_protect_say 0x2A 0x6F 0) ∷ [] }
 {}
 
-/// Both bits stored lock all blocks at a boot, in version 1 and 2, and bytes that begin with neither's mark store none.
+/// Both bits stored lock all blocks at a boot, as version 1 and by a record of version 2, and bytes that begin with neither's mark
+/// store none.
+#[tactic(auto, unfolding(ec_model::specs::Stored::slot_count))]
 pub fn boots_by_what_is_stored()
     ensures both { replies ((FlashProtect, 1, flash_protect_ask 0 0) ∷ []) (on a64) ≡ (0, flash_protect_say 0x4F 0x6F 0) ∷ [] }
-    ensures both_2 { replies ((FlashProtect, 1, flash_protect_ask 0 0) ∷ []) (on (with_records (record_bytes 0x41) e64)) ≡ (0, flash_protect_say 0x4F 0x6F 0) ∷ [] }
+    ensures by_record { replies ((FlashProtect, 1, flash_protect_ask 0 0) ∷ []) (on (with_records (record_bytes 0x41) e64)) ≡
+        (0, flash_protect_say 0x4F 0x6F 0) ∷ [] }
     ensures other { replies ((FlashProtect, 1, flash_protect_ask 0 0) ∷ [])
         (on (overwritten 0x7000 (0x50 ∷ 0x53 ∷ 0x54 ∷ 0x30 ∷ 0x41 ∷ 0 ∷ 0 ∷ 0 ∷ []) e64)) ≡ (0, flash_protect_say 0x08 0x6F 0x41) ∷ [] }
     ensures alone { replies ((FlashProtect, 1, flash_protect_ask 0 0) ∷ [])

@@ -2,10 +2,6 @@ use Rattle.std.proofs.Common.{refl}
 use Rattle.ec_model.specs.Stored.{slot_count}
 use Rattle.ec_examples.proofs.protection.lock_at_boot_is_set.Goals as goal
 
-pub returns-clause-before : goal.returns-clause-before
-unfolding slot_count
-returns-clause-before c = refl
-
 pub returns-clause-stored : goal.returns-clause-stored
 unfolding slot_count
 returns-clause-stored c = refl
@@ -13,7 +9,3 @@ returns-clause-stored c = refl
 pub returns-clause-bytes : goal.returns-clause-bytes
 unfolding slot_count
 returns-clause-bytes c = refl
-
-pub returns-clause-behind : goal.returns-clause-behind
-unfolding slot_count
-returns-clause-behind c = refl
