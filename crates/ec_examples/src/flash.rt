@@ -1,5 +1,6 @@
 // Reads, writes and erases of the flash: their statuses in their order, and what they leave.
-ghost use Rattle.std.specs.Prelude.{◌≡◌, [], ◌∷◌, ◌++◌, replicate, Some};
+ghost use Rattle.std.specs.Prelude.{◌≡◌, true, false, [], ◌∷◌, ◌++◌, replicate, Some};
+ghost use Rattle.ec_model.specs.Ranges.{is_flash_size, ro_range, pstate_range, rw_range};
 ghost use Rattle.ec_model.specs.Commands.{FlashRead, FlashWrite, FlashErase};
 ghost use Rattle.ec_model.specs.Bodies.{flash_read_ask, flash_write_ask, flash_erase_ask};
 ghost use Rattle.ec_model.specs.Operations.{Program, pieces};
@@ -51,4 +52,14 @@ pub fn erases_that_are_asked()
         (FlashErase, 0, flash_erase_ask 0x8000 0x8000) ∷ []) (on e64) ≡
         (3, []) ∷ (3, []) ∷ (3, []) ∷ (3, []) ∷ (4, []) ∷ (8, []) ∷ [] }
     ensures job { (core_after ((FlashErase, 0, flash_erase_ask 0x8000 0x8000) ∷ []) (on e64)).live.erase ≡ Some (record { next = 8; left = 8 }) }
+{}
+
+/// A flash may have 4,194,304 bytes, of which RW has the upper half, but neither twice as many nor three quarters.
+pub fn largest_flash()
+    ensures allowed { is_flash_size 4194304 ≡ true }
+    ensures larger { is_flash_size 8388608 ≡ false }
+    ensures between { is_flash_size 3145728 ≡ false }
+    ensures ro { ro_range 4194304 ≡ record { at = 0; size = 0x1FF000 } }
+    ensures pstate { pstate_range 4194304 ≡ record { at = 0x1FF000; size = 0x1000 } }
+    ensures rw { rw_range 4194304 ≡ record { at = 0x200000; size = 0x200000 } }
 {}

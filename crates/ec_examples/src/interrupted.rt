@@ -73,7 +73,7 @@ pub fn erase_that_is_cut()
         booted_table (overwritten 0x8FFF (replicate 17 0) e64) true Lpc PowerOn false }
 {}
 
-/// Power that is lost inside the program of the stored bits may leave both of them stored, or none.
+/// Power that is lost inside the program of the mark may leave both bits stored as version 1, or none.
 pub fn cut_inside_the_stored_bits()
     ensures both { StopsAt 1 (protect_operations (on e64) 1 1) e64 (overwritten 0x7000 (0x50 ∷ 0x53 ∷ 0x54 ∷ 0x31 ∷ 0x41 ∷ 0 ∷ 0 ∷ 0 ∷ []) e64) }
     ensures both_are { stored (overwritten 0x7000 (0x50 ∷ 0x53 ∷ 0x54 ∷ 0x31 ∷ 0x41 ∷ 0 ∷ 0 ∷ 0 ∷ []) e64) ≡ record { ro = true; all = true } }

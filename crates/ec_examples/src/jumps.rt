@@ -1,9 +1,13 @@
 // REBOOT_EC: jumps from one image to the other, and the reset by a command.
-ghost use Rattle.std.specs.Prelude.{◌≡◌, [], ◌∷◌};
-ghost use Rattle.ec_model.specs.Commands.{Sysinfo, Reboot};
+ghost use Rattle.std.specs.Prelude.{◌≡◌, true, false, [], ◌∷◌, replicate, None};
+ghost use Rattle.ec_types.specs.declared.image.ImageCopy.TheVariants.{Ro, Rw};
+ghost use Rattle.ec_model.specs.declared.live.HashView.TheVariants.{Idle, Busy, Done};
+ghost use Rattle.ec_model.specs.Commands.{Sysinfo, Resend, Reboot};
 ghost use Rattle.ec_model.specs.Bodies.{reboot_ask, sysinfo_say};
-ghost use Rattle.ec_examples.specs.Flashes.{e64, g64, with_image};
-ghost use Rattle.ec_examples.specs.Cores.{on, reset};
+ghost use Rattle.ec_model.specs.Erasing.{with_job};
+ghost use Rattle.ec_model.specs.Jump.{jump_version, jumped};
+ghost use Rattle.ec_examples.specs.Flashes.{e64, g64, with_image, with_version};
+ghost use Rattle.ec_examples.specs.Cores.{on, reset, before_jump};
 ghost use Rattle.ec_examples.specs.Replies.{replies};
 
 /// A locked controller jumps to RW once after a boot, and not once jumps are disabled; a COLD, which has no reply, boots it.
@@ -32,4 +36,63 @@ pub fn other_reboots()
     ensures { replies ((Reboot, 0, reboot_ask 0 0) ∷ (Reboot, 0, reboot_ask 0 1) ∷ (Reboot, 0, reboot_ask 4 1) ∷ (Reboot, 0, reboot_ask 3 0) ∷
         (Sysinfo, 0, []) ∷ []) (on e64) ≡
         (0, []) ∷ (3, []) ∷ (3, []) ∷ (3, []) ∷ (0, sysinfo_say 0x08 1 0x04) ∷ [] }
+{}
+
+/// RO writes jump data of version 1 or 2 where its byte at 40 says so, and else of version 3, as RW always does.
+pub fn versions_of_jump_data()
+    ensures one { jump_version (with_version 1 e64) Ro ≡ 1 }
+    ensures two { jump_version (with_version 2 e64) Ro ≡ 2 }
+    ensures other { jump_version e64 Ro ≡ 3 }
+    ensures rw { jump_version (with_version 1 e64) Rw ≡ 3 }
+{}
+
+/// Version 1 keeps the locks and the flags alone. Version 2 keeps all else too, but of the hash only a finished one.
+pub fn jumps_by_their_version()
+    ensures one { (jumped Rw (before_jump (with_version 1 e64) (Done 0x8000 4 (replicate 32 7)))).live ≡
+        record {
+          copy = Rw;
+          flags = 0x408;
+          jumped = true;
+          ro_now = true;
+          all_now = false;
+          pstate_bad = false;
+          jump_off = false;
+          hash = Idle;
+          erase = None;
+          saved = 9;
+        } }
+    ensures two { (jumped Rw (before_jump (with_version 2 e64) (Done 0x8000 4 (replicate 32 7)))).live ≡
+        record {
+          copy = Rw;
+          flags = 0x408;
+          jumped = true;
+          ro_now = true;
+          all_now = false;
+          pstate_bad = true;
+          jump_off = true;
+          hash = Done 0x8000 4 (replicate 32 7);
+          erase = None;
+          saved = 0;
+        } }
+    ensures busy { (jumped Rw (before_jump (with_version 2 e64) (Busy 0x8000 4 1))).live ≡
+        record {
+          copy = Rw;
+          flags = 0x408;
+          jumped = true;
+          ro_now = true;
+          all_now = false;
+          pstate_bad = true;
+          jump_off = true;
+          hash = Idle;
+          erase = None;
+          saved = 0;
+        } }
+{}
+
+/// So the saved status of an erase is told behind a jump from RO, but not where RO writes version 1.
+pub fn saved_status_over_a_jump()
+    ensures kept { replies ((Reboot, 0, reboot_ask 2 0) ∷ (Resend, 0, []) ∷ [])
+        (with_job None 0 (on (with_image (with_version 2 e64)))) ≡ (0, []) ∷ (0, []) ∷ [] }
+    ensures lost { replies ((Reboot, 0, reboot_ask 2 0) ∷ (Resend, 0, []) ∷ [])
+        (with_job None 0 (on (with_image (with_version 1 e64)))) ≡ (0, []) ∷ (9, []) ∷ [] }
 {}

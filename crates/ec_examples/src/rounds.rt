@@ -9,12 +9,12 @@ ghost use Rattle.ec_examples.specs.I2cExchanges.{stopped, short_round, info_requ
 
 /// With the power off a sync is one round: a stop, which has 0xFF.
 pub fn round_without_power()
-    ensures { Rounds I2c (record { on = false; spare = 3000000 }) (stopped 0xFF) (stopped 0xFF ∷ []) }
+    ensures { Rounds I2c (record { on = false; spare = 12000000 }) (stopped 0xFF) (stopped 0xFF ∷ []) }
 {}
 
-/// A sync of two rounds, each of which ends behind GET_PROTOCOL_INFO; the second may leave a million less.
+/// A sync of two rounds, each of which ends behind GET_PROTOCOL_INFO; the second may leave four million less.
 pub fn two_short_rounds()
-    ensures { Rounds I2c (record { on = true; spare = 3000000 }) (short_round ++ short_round) (short_round ∷ short_round ∷ []) }
+    ensures { Rounds I2c (record { on = true; spare = 12000000 }) (short_round ++ short_round) (short_round ∷ short_round ∷ []) }
 {}
 
 /// A start that is seen as not taken is a send of any packet, and puts none on the bus. So a round whose FLASH_INFO is tried once
@@ -23,11 +23,11 @@ pub fn round_with_a_start_that_is_not_taken()
     ensures untaken { (packet : List ℕ) → Send I2c untaken packet Silent }
     ensures info { request_packet 0x10 1 [] ≡ info_request }
     ensures response { is_response info_response ≡ true }
-    ensures round { Rounds I2c (record { on = true; spare = 3000000 }) tried_round (tried_round ∷ []) }
+    ensures round { Rounds I2c (record { on = true; spare = 12000000 }) tried_round (tried_round ∷ []) }
 {}
 
 /// A short round is shown the limits of the bus.
 pub fn what_a_round_is_shown()
-    ensures { IsShown (record { bus = I2c; floor = 2000000 }) short_round protocol_request 12 0
+    ensures { IsShown (record { bus = I2c; floor = 8000000 }) short_round protocol_request 12 0
         (0x08 ∷ 0x00 ∷ 0x00 ∷ 0x00 ∷ 0x80 ∷ 0x00 ∷ 0x80 ∷ 0x00 ∷ 0x01 ∷ 0x00 ∷ 0x00 ∷ 0x00 ∷ []) }
 {}

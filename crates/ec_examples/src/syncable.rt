@@ -11,7 +11,7 @@ ghost use Rattle.ec_model.specs.Boot.{booted_table};
 ghost use Rattle.ec_model.specs.Image.{fit_of};
 ghost use Rattle.ec_model.specs.Erasing.{with_job};
 ghost use Rattle.ec_model.specs.Syncable.{settled, Syncable};
-ghost use Rattle.ec_examples.specs.Flashes.{e64, a64, image_v2, with_image};
+ghost use Rattle.ec_examples.specs.Flashes.{e64, a64, record_bytes, with_records, image_v2, with_image};
 ghost use Rattle.ec_examples.specs.Cores.{on};
 ghost use Rattle.ec_examples.specs.Events.{powered, table_after, spi_bytes};
 ghost use Rattle.ec_examples.specs.Sends.{hello_request};
@@ -27,11 +27,14 @@ pub fn settled_tables()
     ensures off { settled (off_table e64 true I2c) ≡ off_table e64 true I2c }
 {}
 
-/// A controller that is on can be synced, but where the lock of all blocks is stored under an asserted pin.
+/// A controller that is on can be synced, but where the lock of all blocks is stored under an asserted pin, as version 1 or by the
+/// last record of version 2.
 pub fn syncable_by_what_is_stored()
     ensures erased { Syncable (powered e64 Lpc) image_v2 }
     ensures waiting { Syncable hello_waits image_v2 }
     ensures locked { ¬ Syncable (powered a64 Lpc) image_v2 }
+    ensures by_record { ¬ Syncable (powered (with_records (record_bytes 0x41) e64) Lpc) image_v2 }
+    ensures taken_back { Syncable (powered (with_records (record_bytes 0x41 ++ record_bytes 1) e64) Lpc) image_v2 }
     ensures pin_off { Syncable (booted_table a64 false Lpc PowerOn false) image_v2 }
     ensures off { ¬ Syncable (off_table e64 true Lpc) image_v2 }
 {}

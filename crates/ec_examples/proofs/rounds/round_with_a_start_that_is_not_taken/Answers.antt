@@ -11,5 +11,5 @@ pub returns-clause-round : goal.returns-clause-round
 returns-clause-round c = record {
   few = omega arith;
   whole = refl;
-  each = (begun-round 2000000 3000000 (untaken ++ i2c_exchange info_request info_response) refl (none-asked (untaken ++ i2c_exchange info_request info_response) refl) refl, tt);
+  each = (begun-round 8000000 12000000 (untaken ++ i2c_exchange info_request info_response) refl (none-asked (untaken ++ i2c_exchange info_request info_response) refl) refl, tt);
 }

@@ -8,7 +8,7 @@ returns c = record {
   before = stopped 0;
   asking = i2c_exchange protocol_request protocol_response;
   after = [];
-  view = record { on = true; spare = 3000000 };
+  view = record { on = true; spare = 12000000 };
   parts = refl;
-  asked = protocol-tried 2000000 (record { on = true; spare = 3000000 }) refl;
+  asked = protocol-tried 8000000 (record { on = true; spare = 12000000 }) refl;
 }
