@@ -64,12 +64,12 @@ boot-alive : (bad : Bool) → boot_hurt bad ≡ Cut → ⊥
 boot-alive true cut = cc
 boot-alive false cut = cc
 
--- a boot reads eight bytes
+-- a boot reads the stored bits once
 boot-spent : (bad : Bool) (old new : DeviceView) → IsLookedAt bad old new → IsSpent (boot_hurt bad) old new
 boot-spent true old new looked =
-    record { extent = looked.extent; faults = looked.faults; cuts = looked.cuts; rose = looked.failed refl; fetched = record { least = omega (arith, looked.fetched); most = omega (arith, looked.fetched) } }
+    record { extent = looked.extent; faults = looked.faults; cuts = looked.cuts; rose = looked.failed refl; refusals = looked.refusals; fetched = record { least = omega (arith, looked.fetched); most = omega (arith, looked.fetched) } }
 boot-spent false old new looked =
-    record { extent = looked.extent; faults = looked.faults; cuts = looked.cuts; rose = tt; fetched = record { least = omega (arith, looked.fetched); most = omega (arith, looked.fetched) } }
+    record { extent = looked.extent; faults = looked.faults; cuts = looked.cuts; rose = tt; refusals = looked.refusals; fetched = record { least = omega (arith, looked.fetched); most = omega (arith, looked.fetched) } }
 
 -- a boot of a controller that is on
 pub booted-up : {F : Type 0} (kind : BusKind) (event : Event) (cause : ResetCause) (hurt : Hurt) (answer : ℕ) (old_bus bus new_bus : BusState) (run next : RunView) (held : Held F) → kind_of bus ≡ kind → new_bus ≡ fresh_bus kind →

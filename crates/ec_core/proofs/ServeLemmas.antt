@@ -67,7 +67,7 @@ packet-refused kind bytes error hurt status body on read whole status_is body_is
       leaves = leaves on.device.held;
       pin = refl;
       short = (limits kind).least;
-      spent = unspent (packet_limit kind - 8) on.device;
+      spent = unspent 1024 on.device;
       wear = λ core told. stays (length (operations_by core (asked core bytes))) on.device.wear on.device.wear refl;
     }))) where
       leaves : (o : Option (List ℕ)) → Changes (λ before after. FoundLeaves (asked before bytes) Whole (packet_limit kind) before after error.0 []) (option_map (core_at on) o) (option_map (core_at on) o)
@@ -168,7 +168,7 @@ served-up {F} kind event answer old_bus bus new_bus run next hurt status body by
     (step-up {F = F} kind event hurt answer old_bus bus (replied (response_packet status body) bus) (Some ServeTask) run (Up next) taken
     (event-told hurt event old_bus bus answer (answer_by hurt answer (lost_answer event)) run (Serve bytes) (up_table (replied (response_packet status body) bus) next) taken.state taken.answer_is work_is
     (replied-told hurt run next bus answer (lost_answer event) bytes status body stays_on.alive leaves))
-    (on-alive hurt stays_on.alive) stays_on.pin (replied-none (response_packet status body) bus) (spent-in hurt (packet_limit kind - 8) run.device next.device (short-of kind) stays_on.spent)
+    (on-alive hurt stays_on.alive) stays_on.pin (replied-none (response_packet status body) bus) (spent-in hurt 1024 run.device next.device (omega arith) stays_on.spent)
     (work-wears event old_bus run (Serve bytes) next.device.wear work_is stays_on.wear))
 
 -- a request in which power was lost
@@ -181,5 +181,5 @@ served-down {F} kind event answer old_bus bus run off pin hurt bytes kind_is ask
     (step-up {F = F} kind event Cut answer old_bus bus bus (Some ServeTask) run (Down off run.pin) taken
     (event-told Cut event old_bus bus answer (lost_answer event) run (Serve bytes) (down_table kind run.pin off) taken.state taken.answer_is work_is
     (lost-told run off bus kind answer (lost_answer event) bytes kind_is goes_off.leaves))
-    refl refl tt (spent-in Cut (packet_limit kind - 8) run.device off.device (short-of kind) goes_off.spent)
+    refl refl tt (spent-in Cut 1024 run.device off.device (omega arith) goes_off.spent)
     (work-wears event old_bus run (Serve bytes) off.device.wear work_is goes_off.wear))

@@ -130,12 +130,12 @@ step-down {F} kind event hurt answer old_bus new_bus task off pin new alive take
 -- nothing was spent
 pub unspent : (asked : ℕ) (device : DeviceView) → Costs Whole asked device device
 unspent asked device =
-    record { extent = refl; faults = omega arith; cuts = omega arith; rose = tt; fetched = stays asked device.fetched device.fetched refl }
+    record { extent = refl; faults = omega arith; cuts = omega arith; rose = tt; refusals = refl; fetched = stays asked device.fetched device.fetched refl }
 
 -- an event may cost more than its task did
 pub spent-in : (hurt : Hurt) (asked : ℕ) (old new : DeviceView) → asked ≤ 1024 → Costs hurt asked old new → IsSpent hurt old new
 spent-in hurt asked old new short spent =
-    record { extent = spent.extent; faults = spent.faults; cuts = spent.cuts; rose = spent.rose; fetched = record { least = spent.fetched.least; most = omega (arith, spent.fetched.most) } }
+    record { extent = spent.extent; faults = spent.faults; cuts = spent.cuts; rose = spent.rose; refusals = spent.refusals; fetched = record { least = spent.fetched.least; most = omega (arith, spent.fetched.most) } }
 
 -- the operations of an event are those of its work
 pub work-wears : (event : Event) (old_bus : BusState) (run : RunView) (work : Work) (worn : ℕ) → work_on (awake_of run old_bus) event ≡ work →

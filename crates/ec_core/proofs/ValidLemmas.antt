@@ -9,10 +9,12 @@ use Rattle.ec_model.specs.declared.event.Entry.TheVariants.{Step}
 use Rattle.ec_model.specs.Bus.{BusState, kind_of}
 use Rattle.ec_model.specs.Table.{Table, Valid, table_of, off_table}
 use Rattle.ec_model.specs.Guarded.{keeps_pin}
+use Rattle.ec_model.specs.Appending.{AddsWhole}
 use Rattle.ec_model.proofs.ValidEvents.{step-valid}
 use Rattle.ec_model.proofs.GuardStep.{step-kept}
 use Rattle.ec_model.proofs.RunLaws.{guarded_bytes-leaves}
 use Rattle.ec_model.proofs.BootLaws.{boots-ro, boots-locked}
+use Rattle.ec_model.proofs.AppendLaws.{step-adds}
 use Rattle.ec_wire.specs.Calls.{Agrees}
 use Rattle.ec_boot.specs.States.{core_at}
 use Rattle.ec_core.specs.View.{KeepsGuard, BootsRo}
@@ -48,6 +50,13 @@ boots-told hurt event answer (Some old) (Some new) valid told =
       ro = λ boots. boots-ro old event answer 0 0 hurt new valid boots told;
       locked = λ guarded boots. boots-locked old event answer 0 0 hurt new valid guarded boots told;
     }
+
+-- a record that has its place is added whole
+pub adds-told : (hurt : Hurt) (event : Event) (answer : ℕ) (o p : Option Table) → IfSome o Valid → EventTold hurt event answer o p → Changes (AddsWhole event) o p
+adds-told hurt event answer None None valid told = tt
+adds-told hurt event answer None (Some new) valid told = told
+adds-told hurt event answer (Some old) None valid told = told
+adds-told hurt event answer (Some old) (Some new) valid told = step-adds old event answer 0 0 hurt new valid told
 
 -- a valid table agrees with what is held
 pub agrees-told : {F : Type 0} (kind : BusKind) (bus : BusState) (held : Option (Held F)) → kind_of bus ≡ kind → IfSome (kept_table kind bus held) Valid → IfSome (kept_table kind bus held) (Agrees kind (is_kept_up held))

@@ -70,7 +70,7 @@ kept_pin (Some held) = held_pin held
 
 -- the device of a controller
 abbrev pub kept_device : {F : Type 0} → Option (Held F) → DeviceView
-kept_device None = record { held = None; extent = 0; faults = 0; cuts = 0; wear = 0; fetched = 0 }
+kept_device None = record { held = None; extent = 0; faults = 0; cuts = 0; refusals = 0; wear = 0; fetched = 0 }
 kept_device (Some held) = held_device held
 
 -- a controller holds something, and no request is due now where it is on
