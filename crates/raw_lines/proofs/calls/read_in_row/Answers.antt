@@ -1,11 +1,20 @@
-use Rattle.std.proofs.Common.{sym, ap, ◌∙◌, ℕ, ◌+◌, ◌++◌, List, [], ◌∷◌, length, arith}
+use Rattle.std.proofs.Common.{refl, sym, ap, ◌∙◌, ℕ, ◌+◌, ◌++◌, List, [], ◌∷◌, length, arith}
 use Rattle.std.proofs.lemmas.List.{length_push}
 use Rattle.hex.specs.Hex.{encode_lower}
-use Rattle.ec_model.specs.Heard.{port_reads}
-use Rattle.ec_wire.proofs.Growth.{made-then, made-as, made-access, made-room}
-use Rattle.ectool_lines.proofs.HexTexts.{encode-push}
+use Rattle.ec_wire.proofs.Growth.{made-none, made-then, made-as, made-access, made-room}
+use Rattle.ectool_lines.proofs.HexTexts.{encode-none, encode-push}
 use Rattle.host_framing.proofs.PollLemmas.{port_reads-append}
 use Rattle.raw_lines.proofs.calls.read_in_row.Goals as goal
+
+pub loop-place-init : goal.loop-place-init
+loop-place-init g c = record {
+  room = omega arith;
+  bytes = [];
+  each = refl;
+  made = made-none (g.W.Wire.view c.args.w.now);
+  text_is = c.requires.empty ∙ encode-none [];
+  long = ap length c.requires.empty;
+}
 
 pub loop-place-preserved : goal.loop-place-preserved
 loop-place-preserved g c =
