@@ -4,8 +4,8 @@ ghost use Rattle.ec_model.specs.Commands.{line_of};
 ghost use Rattle.command_table.specs.Asks.{named, IsAskOf};
 
 use ec_params::{
-    CmdVersionsAsk0, CmdVersionsAsk1, FlashEraseAsk, FlashProtectAsk, FlashReadAsk,
-    FlashWriteAsk, HelloAsk, RegionInfoAsk, TestAsk,
+    CmdVersionsAsk0, CmdVersionsAsk1, FlashEraseAsk, FlashProtectAsk, FlashReadAsk, FlashWriteAsk,
+    HelloAsk, RegionInfoAsk, TestAsk,
 };
 
 /// The commands that only ask, and read no byte of the flash.

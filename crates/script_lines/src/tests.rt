@@ -23,7 +23,13 @@ fn events_are_read(rt: HostRuntime) {
 
 #[test]
 fn some_lines_do_nothing(rt: HostRuntime) {
-    for line in [b"".as_slice(), b"   ", b"#hello", b"# \x7E", &[b' '; 16_384]] {
+    for line in [
+        b"".as_slice(),
+        b"   ",
+        b"#hello",
+        b"# \x7E",
+        &[b' '; 16_384],
+    ] {
         assert!(rt; matches!(parse(line), Ok(Line::Nothing)));
     }
     assert!(rt; matches!(parse(b" #"), Ok(Line::Tool)));
