@@ -56,6 +56,7 @@ impl<B: Bus + Drop, F: FlashDev> Bench<B, F> {
     }
 
     /// One event of the controller, with its entry: what it answers.
+    #[inline(always)]
     pub(crate) fn step(&mut self, event: Event) -> u8
         requires { 1 ≤ self.old.spare }
         ensures adds { Adds (StepEntry event result (event_byte event) result self.new.controller.hurt) (wire_view B.bus self.old) (wire_view B.bus self.new) }

@@ -4,8 +4,8 @@ ghost use Rattle.ec_model.specs.Commands.{line_of};
 ghost use Rattle.command_table.specs.Asks.{named, IsAskOf};
 
 use ec_params::{
-    CmdVersionsAsk0, CmdVersionsAsk1, FlashEraseAsk, FlashProtectAsk, FlashReadAsk,
-    FlashWriteAskRef, HelloAsk, RegionInfoAsk, TestAsk,
+    CmdVersionsAsk0, CmdVersionsAsk1, FlashEraseAsk, FlashProtectAsk, FlashReadAsk, FlashWriteAsk,
+    HelloAsk, RegionInfoAsk, TestAsk,
 };
 
 /// The commands that only ask, and read no byte of the flash.
@@ -28,7 +28,7 @@ pub enum Question {
 pub enum Ask<'a> {
     Question(Question),
     FlashRead(FlashReadAsk),
-    FlashWrite(FlashWriteAskRef<'a>),
+    FlashWrite(FlashWriteAsk<'a>),
     FlashErase(FlashEraseAsk),
     FlashProtect(FlashProtectAsk),
     Resend,
@@ -68,7 +68,7 @@ pub fn ask_of<'a>(command: u16, version: u8, body: &'a [u8]) -> Option<Ask<'a>>
         0x000B => alone(body, Ask::Question(Question::ProtoInfo)),
         0x0010 => alone(body, Ask::Question(Question::FlashInfo)),
         0x0011 => Some(Ask::FlashRead(FlashReadAsk::read(body)?)),
-        0x0012 => Some(Ask::FlashWrite(FlashWriteAskRef::read(body)?)),
+        0x0012 => Some(Ask::FlashWrite(FlashWriteAsk::read(body)?)),
         0x0013 => Some(Ask::FlashErase(FlashEraseAsk::read(body)?)),
         0x0015 => Some(Ask::FlashProtect(FlashProtectAsk::read(body)?)),
         0x0016 => Some(Ask::Question(Question::RegionInfo(RegionInfoAsk::read(body)?))),

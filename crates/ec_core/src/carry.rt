@@ -96,6 +96,7 @@ fn carry<B: Bus + Drop, F: FlashDev>(held: Held<F>, bus: &mut B, task: Task) -> 
 }
 
 /// Does a task on what a controller holds. Gives what a flash call did.
+#[inline(never)]
 pub fn carry_out<B: Bus + Drop, F: FlashDev>(
     held: &mut Option<Held<F>>,
     bus: &mut B,

@@ -14,7 +14,7 @@ asked command version body = record { command = command; version = version; body
 
 -- a request as it was read
 abbrev pub request_view : Request → RequestView
-request_view request = asked request.command request.version request.body
+request_view request = asked request.command request.version request.body.now
 
 -- the answer is the request that was read, or the status of its refusal
 abbrev pub IsReadAs : Result RequestView ℕ → Result Request Status → Type 0
@@ -29,7 +29,7 @@ said status body = record { status = status; body = body }
 
 -- a response as it was read
 abbrev pub view_of_response : Response → ResponseView
-view_of_response response = said response.status response.body
+view_of_response response = said response.status response.body.now
 
 -- the first test that fails, and none of a response
 abbrev pub reply_fault : List ℕ → Option BadReply

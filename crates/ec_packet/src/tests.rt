@@ -26,7 +26,7 @@ fn requests_are_tested_in_order(rt: HostRuntime) -> Result<(), Fail> {
     let request = decode_request(&HELLO).ok().ok_or("HELLO is a request")?;
     assert_eq!(rt; request.command, 1);
     assert_eq!(rt; request.version, 0);
-    assert_eq!(rt; request.body.as_slice(), &HELLO[8..]);
+    assert_eq!(rt; request.body, &HELLO[8..]);
     for (bytes, status) in [
         ([4, 0, 0, 0, 0, 0, 0].as_slice(), 13),
         ([4, 0, 0, 0, 0, 0, 4, 0].as_slice(), 12),
@@ -50,7 +50,7 @@ fn requests_are_tested_in_order(rt: HostRuntime) -> Result<(), Fail> {
 fn responses_are_tested_in_order(rt: HostRuntime) -> Result<(), Fail> {
     let response = decode_response(&REPLY).ok().ok_or("REPLY is a response")?;
     assert_eq!(rt; response.status, 0);
-    assert_eq!(rt; response.body.as_slice(), &REPLY[8..]);
+    assert_eq!(rt; response.body, &REPLY[8..]);
     for (bytes, why) in [
         ([4, 0, 0, 0, 4, 0, 1].as_slice(), BadReply::Short),
         ([4, 0, 0, 0, 4, 0, 1, 0].as_slice(), BadReply::Version),

@@ -231,57 +231,19 @@ impl<'a> FlashReadSayRef<'a> {
     }
 }
 
-/// FLASH_WRITE's request, of either version.
-#[derive(Drop)]
-pub struct FlashWriteAsk {
-    /// Where the bytes go, from the flash's first byte.
-    pub offset: u32,
-    /// The bytes to write, at most 528; the spelling has their number before them.
-    pub bytes: Packet,
-}
-
-impl FlashWriteAsk {
-    /// The fields that the bytes spell; None exactly where there are more than 536, the most that a packet has behind its
-    /// header, or not as many bytes follow as the second number says.
-    pub fn read(bytes: &[u8]) -> Option<Self>
-        ensures some { IsSome result ↔ IsTrue (is_write_spelled bytes.now) }
-        ensures spelled { IfSome result (λ ask. bytes.now ≡ flash_write_ask ask.offset ask.bytes) }
-        ensures back { (offset : ℕ) (written : List ℕ) → offset < 2 ^ 32 → length written ≤ 528 →
-            bytes.now ≡ flash_write_ask offset written →
-            IsSomeAnd result (λ ask. (ask.offset ≡ offset) × (ask.bytes ≡ written)) }
-    {
-        let ask = FlashWriteAskRef::read(bytes)?;
-        Some(FlashWriteAsk {
-            offset: ask.offset,
-            bytes: Columns::new(ask.bytes).rest(),
-        })
-    }
-
-    /// Appends the spelling: the offset, the number of bytes, and the bytes.
-    pub fn write(&self, out: &mut Packet)
-        requires fits { length out.old + 8 + length self.now.bytes ≤ 544 }
-        requires short { 8 + length self.now.bytes ≤ 536 }
-        ensures { out.new ≡ out.old ++ flash_write_ask self.now.offset self.now.bytes }
-    {
-        put_u32(out, self.offset);
-        put_u32(out, self.bytes.len() as u32);
-        out.extend(self.bytes.as_slice());
-    }
-}
-
 /// FLASH_WRITE's request, of either version, with its bytes where they stand.
 #[derive(Clone, Copy)]
-pub struct FlashWriteAskRef<'a> {
+pub struct FlashWriteAsk<'a> {
     /// Where the bytes go, from the flash's first byte.
     pub offset: u32,
-    /// The bytes to write.
+    /// The bytes to write; the spelling has their number before them.
     pub bytes: &'a [u8],
 }
 
-impl<'a> FlashWriteAskRef<'a> {
+impl<'a> FlashWriteAsk<'a> {
     /// The fields that the bytes spell; None exactly where there are more than 536, the most that a packet has behind its
     /// header, or not as many bytes follow as the second number says.
-    pub fn read(bytes: &'a [u8]) -> Option<FlashWriteAskRef<'a>>
+    pub fn read(bytes: &'a [u8]) -> Option<FlashWriteAsk<'a>>
         ensures some { IsSome result ↔ IsTrue (is_write_spelled bytes.now) }
         ensures spelled { IfSome result (λ ask. bytes.now ≡ flash_write_ask ask.offset ask.bytes.now) }
         ensures short { IfSome result (λ ask. 8 + length ask.bytes.now ≡ length bytes.now) }
@@ -298,9 +260,20 @@ impl<'a> FlashWriteAskRef<'a> {
         if bytes.len() != 8 + size as usize {
             return None;
         }
-        Some(FlashWriteAskRef {
+        Some(FlashWriteAsk {
             offset,
             bytes: columns.all(),
         })
+    }
+
+    /// Appends the spelling: the offset, the number of bytes, and the bytes.
+    pub fn write(&self, out: &mut Packet)
+        requires fits { length out.old + 8 + length self.now.bytes.now ≤ 544 }
+        requires short { 8 + length self.now.bytes.now ≤ 536 }
+        ensures { out.new ≡ out.old ++ flash_write_ask self.now.offset self.now.bytes.now }
+    {
+        put_u32(out, self.offset);
+        put_u32(out, self.bytes.len() as u32);
+        out.extend(self.bytes);
     }
 }

@@ -16,7 +16,7 @@ mod table;
 pub use commands::{CmdVersionsAsk0, CmdVersionsAsk1, CmdVersionsSay, CommsSay, ProtoInfoSay};
 pub use flash::{
     FlashEraseAsk, FlashInfoSay0, FlashInfoSay1, FlashReadAsk, FlashReadSay, FlashReadSayRef,
-    FlashWriteAsk, FlashWriteAskRef,
+    FlashWriteAsk,
 };
 pub use hash::{VbootHashAsk, VbootHashSay};
 pub use hello::{HelloAsk, HelloSay, ProtoSay};

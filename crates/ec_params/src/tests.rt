@@ -22,7 +22,7 @@ fn a_write_has_as_many_bytes_as_it_says(rt: HostRuntime) -> Result<(), Fail> {
     let bytes = [0x00, 0x80, 0, 0, 4, 0, 0, 0, 0xF0, 0xF1, 0xF2, 0xF3];
     let ask = FlashWriteAsk::read(&bytes).ok_or("a write")?;
     assert_eq!(rt; ask.offset, 0x8000);
-    assert_eq!(rt; ask.bytes.as_slice(), &bytes[8..]);
+    assert_eq!(rt; ask.bytes, &bytes[8..]);
     let mut out = Packet::new();
     ask.write(&mut out);
     assert_eq!(rt; out.as_slice(), bytes.as_slice());

@@ -3,7 +3,6 @@
 
 mod bus;
 mod image;
-mod line_bytes;
 mod little_endian;
 mod protection;
 mod reset;
@@ -12,7 +11,6 @@ mod why;
 
 pub use bus::{BusKind, limit_of};
 pub use image::{Fit, ImageCopy, KeptHash};
-pub use line_bytes::LineBytes;
 pub use little_endian::little_endian_round_trips;
 pub use protection::ProtectBits;
 pub use reset::{ResetCause, flags_of};

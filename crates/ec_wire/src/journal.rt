@@ -50,6 +50,7 @@ impl Journal {
     }
 
     /// Adds an entry.
+    #[inline(always)]
     pub fn push(&mut self, e: Entry)
         requires { 1 ≤ self.old.spare }
         ensures { self.new ≡ record { entries = self.old.entries ++ e ∷ []; spare = self.old.spare - 1 } }

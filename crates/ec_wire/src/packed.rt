@@ -145,6 +145,7 @@ fn numbered_hurt(number: u8) -> Hurt
 }
 
 /// An entry in 8 bytes.
+#[inline(always)]
 pub fn pack(entry: Entry) -> Packed
     ensures { unpacked result ≡ entry }
 {

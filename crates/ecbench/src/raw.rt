@@ -11,8 +11,10 @@ use crate::run::Exit;
 use bench_io::Sink;
 use bench_wire::Bench;
 use bus_lpc::Lpc;
+use ectool_lines::LineText;
 use flash_dev::FlashDev;
 use raw_lines::{read_ports, tick, write_ports};
+use script_words::HexBytes;
 
 /// The host waits so often, and `ok` is printed.
 pub fn serve_tick<F: FlashDev, K: Sink>(
@@ -35,7 +37,7 @@ pub fn serve_out<F: FlashDev, K: Sink>(
     bench: &mut Bench<Lpc, F>,
     number: u32,
     port: u16,
-    bytes: &[u8],
+    bytes: &HexBytes<'_>,
     sink: &mut K,
 ) -> Result<(), Exit>
     requires { port + length bytes.now ≤ 65536 }
@@ -54,6 +56,7 @@ pub fn serve_in<F: FlashDev, K: Sink>(
     number: u32,
     port: u16,
     count: u16,
+    text: &mut LineText,
     sink: &mut K,
 ) -> Result<(), Exit>
     requires ports { port + count ≤ 65536 }
@@ -63,6 +66,6 @@ pub fn serve_in<F: FlashDev, K: Sink>(
     ensures later { K.faults sink.old ≤ K.faults sink.new }
 {
     begin(bench, number)?;
-    read_ports(bench, port, count, sink)?;
+    read_ports(bench, port, count, text, sink)?;
     Ok(())
 }

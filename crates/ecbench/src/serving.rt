@@ -16,7 +16,7 @@ use bus_lpc::Lpc;
 use ec_model::WorldEvent;
 use ec_types::Why;
 use ec_wire::Wire;
-use ectool_lines::run;
+use ectool_lines::{Buffers, parse_checked, run};
 use flash_dev::{Failed, FlashDev};
 use line_reader::{LineReader, Next};
 use script_lines::Line;
@@ -63,6 +63,7 @@ fn serve<F: FlashDev, S: Source, K: Sink>(
     ensures sink_fault { result ≡ Exit.SinkFault → Rose (K.faults sink.old) (K.faults sink.new) }
 {
     let mut reader = LineReader::new();
+    let mut buffers = Buffers::new();
     for number in 1..=MOST_LINES {
         let next = match reader.next(source) {
             Ok(next) => next,
@@ -71,7 +72,7 @@ fn serve<F: FlashDev, S: Source, K: Sink>(
         if let Some(exit) = exit_at(next, number) {
             return exit;
         }
-        if let Err(exit) = serve_line(bench, number, reader.line(), sink) {
+        if let Err(exit) = serve_line(bench, number, reader.line(), &mut buffers, sink) {
             return exit;
         }
         if is_last(next) {
@@ -108,6 +109,7 @@ fn serve_line<F: FlashDev, K: Sink>(
     bench: &mut Bench<Lpc, F>,
     number: u32,
     line: &[u8],
+    buffers: &mut Buffers,
     sink: &mut K,
 ) -> Result<(), Exit>
     ensures serves { ServesLine result number line.now (wire_view LpcKind bench.old) (wire_view LpcKind bench.new) (K.written sink.old) (K.written sink.new) }
@@ -116,19 +118,20 @@ fn serve_line<F: FlashDev, K: Sink>(
 {
     match script_lines::parse(line) {
         Ok(Line::Nothing) => Ok(()),
-        Ok(Line::Tool) => serve_tool(bench, number, line, sink),
+        Ok(Line::Tool) => serve_tool(bench, number, line, buffers, sink),
         Ok(Line::Pin { on }) => serve_event(bench, number, WorldEvent::Pin { on }, sink),
         Ok(Line::Power { on }) => serve_event(bench, number, WorldEvent::Power { on }, sink),
         Ok(Line::Reset { cause }) => serve_event(bench, number, WorldEvent::Reset { cause }, sink),
         Ok(Line::Tick { count }) => serve_tick(bench, number, count, sink),
-        Ok(Line::PortsOut { port, bytes }) => serve_out(
+        Ok(Line::PortsOut { port, bytes }) => serve_out(bench, number, port, &bytes, sink),
+        Ok(Line::PortsIn { port, count }) => serve_in(
             bench,
             number,
             port,
-            bytes.as_slice(),
+            count,
+            &mut buffers.text,
             sink,
         ),
-        Ok(Line::PortsIn { port, count }) => serve_in(bench, number, port, count, sink),
         Err(why) => Err(Exit::BadLine { line: number, why }),
     }
 }
@@ -138,6 +141,7 @@ fn serve_tool<F: FlashDev, K: Sink>(
     bench: &mut Bench<Lpc, F>,
     number: u32,
     line: &[u8],
+    buffers: &mut Buffers,
     sink: &mut K,
 ) -> Result<(), Exit>
     requires { line_of line.now ≡ Ok Line.Tool }
@@ -145,12 +149,12 @@ fn serve_tool<F: FlashDev, K: Sink>(
     ensures sink_fault { result ≡ Err Exit.SinkFault → Rose (K.faults sink.old) (K.faults sink.new) }
     ensures later { K.faults sink.old ≤ K.faults sink.new }
 {
-    let tool = match ectool_lines::parse(line) {
+    let tool = match parse_checked(line) {
         Ok(tool) => tool,
         Err(why) => return Err(Exit::BadLine { line: number, why }),
     };
     begin(bench, number)?;
-    run(bench, &tool, sink)?;
+    run(bench, &tool, buffers, sink)?;
     Ok(())
 }
 

@@ -1,5 +1,5 @@
 // The commands that a line sends.
-ghost use Rattle.std.specs.Prelude.{◌≡◌, ◌≤◌, ◌<◌, ◌+◌, ◌-◌, ◌*◌, length, take, drop, min};
+ghost use Rattle.std.specs.Prelude.{◌≡◌, ◌≤◌, ◌<◌, ◌+◌, ◌-◌, ◌*◌, [], length, take, drop, min};
 ghost use Rattle.ectool_lines.specs.Tools.{IsInRange};
 ghost use Rattle.ectool_lines.specs.Requests.{parts_of, count_of, command_of, hello_command, question, region_number, test_command, read_command, write_command};
 ghost use Rattle.ec_model.specs.Bodies.{cmd_versions_ask1, region_info_ask, flash_protect_ask};
@@ -12,22 +12,22 @@ use ec_params::{
     CmdVersionsAsk1, FlashProtectAsk, FlashReadAsk, FlashWriteAsk, HelloAsk, RegionInfoAsk, TestAsk,
 };
 use flash_dev::Region;
+use script_words::HexBytes;
 use std::cmp::min;
 
 /// The number that the host sends with HELLO.
 const HELLO_NUMBER: u32 = 0xA0B0_C0D0;
 
-/// A command as it is sent.
-#[derive(Drop)]
+/// A command as it is sent, but for its body.
+#[derive(Clone, Copy)]
 pub(crate) struct Command {
     pub number: u16,
     pub version: u8,
-    pub body: Packet,
     /// How many bytes a reply has that is a success.
     pub want: usize,
 }
 
-impl Tool {
+impl<'a> Tool<'a> {
     /// How many commands the line sends on a bus with this packet limit, in bytes.
     pub(crate) fn count(&self, limit: u16) -> usize
         requires least { 128 ≤ limit }
@@ -38,36 +38,37 @@ impl Tool {
         let limit = usize::from(limit);
         match self {
             Tool::FlashRead { at: _, size } => parts(limit - 8, *size as usize),
-            Tool::FlashWrite { at: _, bytes } => parts(limit - 16, bytes.as_slice().len()),
+            Tool::FlashWrite { at: _, bytes } => parts(limit - 16, bytes.len()),
             _ => 1,
         }
     }
 
-    /// Command `k` of the line, counted from 0.
-    pub(crate) fn command(&self, limit: u16, k: usize) -> Command
+    /// Command `k` of the line, counted from 0; `body` becomes its body.
+    pub(crate) fn command(&self, limit: u16, k: usize, body: &mut Packet) -> Command
         requires least { 128 ≤ limit }
         requires most { limit ≤ 544 }
         requires within { IsInRange self.now }
         requires there { k < count_of limit self.now }
-        ensures asked { asked_of result ≡ command_of limit self.now k }
+        ensures asked { asked_of result body.new ≡ command_of limit self.now k }
     {
+        body.clear();
         let limit = usize::from(limit);
         match self {
-            Tool::Hello => hello(),
+            Tool::Hello => hello(body),
             Tool::ChipInfo => question(0x05, 0, 96),
-            Tool::CmdVersions { number } => cmd_versions(*number),
+            Tool::CmdVersions { number } => cmd_versions(*number, body),
             Tool::ProtoInfo => question(0x0B, 0, 12),
             Tool::FlashInfo => question(0x10, 1, 24),
-            Tool::RegionInfo { region } => region_info(*region),
-            Tool::FlashProtect { mask, flags } => flash_protect(*mask, *flags),
+            Tool::RegionInfo { region } => region_info(*region, body),
+            Tool::FlashProtect { mask, flags } => flash_protect(*mask, *flags, body),
             Tool::Test {
                 ec_result,
                 ret_len,
                 bytes,
-            } => test(*ec_result, *ret_len, bytes.as_slice()),
+            } => test(*ec_result, *ret_len, bytes, body),
             Tool::Resend => question(0xDB, 0, 0),
-            Tool::FlashRead { at, size } => read(*at, *size as usize, limit - 8, k),
-            Tool::FlashWrite { at, bytes } => write(*at, bytes.as_slice(), limit - 16, k),
+            Tool::FlashRead { at, size } => read(*at, *size as usize, limit - 8, k, body),
+            Tool::FlashWrite { at, bytes } => write(*at, bytes, limit - 16, k, body),
         }
     }
 }
@@ -81,41 +82,38 @@ fn parts(most: usize, size: usize) -> usize
 }
 
 // HELLO.
-fn hello() -> Command
-    ensures { asked_of result ≡ hello_command }
+fn hello(body: &mut Packet) -> Command
+    requires { body.old ≡ [] }
+    ensures { asked_of result body.new ≡ hello_command }
 {
-    let mut body = Packet::new();
-    HelloAsk { x: HELLO_NUMBER }.write(&mut body);
+    HelloAsk { x: HELLO_NUMBER }.write(body);
     Command {
         number: 0x01,
         version: 0,
-        body,
         want: 4,
     }
 }
 
 // A command without a body.
 fn question(number: u16, version: u8, want: usize) -> Command
-    ensures { asked_of result ≡ question number version want }
+    ensures { asked_of result [] ≡ question number version want }
 {
     Command {
         number,
         version,
-        body: Packet::new(),
         want,
     }
 }
 
 // GET_CMD_VERSIONS.
-fn cmd_versions(command: u16) -> Command
-    ensures { asked_of result ≡ record { command = 0x08; version = 1; body = cmd_versions_ask1 command; want = 4 } }
+fn cmd_versions(command: u16, body: &mut Packet) -> Command
+    requires { body.old ≡ [] }
+    ensures { asked_of result body.new ≡ record { command = 0x08; version = 1; body = cmd_versions_ask1 command; want = 4 } }
 {
-    let mut body = Packet::new();
-    CmdVersionsAsk1 { command }.write(&mut body);
+    CmdVersionsAsk1 { command }.write(body);
     Command {
         number: 0x08,
         version: 1,
-        body,
         want: 4,
     }
 }
@@ -133,113 +131,107 @@ fn region_number(region: Region) -> u32
 }
 
 // FLASH_REGION_INFO.
-fn region_info(region: Region) -> Command
-    ensures { asked_of result ≡ record { command = 0x16; version = 1; body = region_info_ask (region_number region); want = 8 } }
+fn region_info(region: Region, body: &mut Packet) -> Command
+    requires { body.old ≡ [] }
+    ensures { asked_of result body.new ≡ record { command = 0x16; version = 1; body = region_info_ask (region_number region); want = 8 } }
 {
-    let mut body = Packet::new();
     let ask = RegionInfoAsk {
         region: region_number(region),
     };
-    ask.write(&mut body);
+    ask.write(body);
     Command {
         number: 0x16,
         version: 1,
-        body,
         want: 8,
     }
 }
 
 // FLASH_PROTECT.
-fn flash_protect(mask: u32, flags: u32) -> Command
-    ensures { asked_of result ≡ record { command = 0x15; version = 1; body = flash_protect_ask mask flags; want = 12 } }
+fn flash_protect(mask: u32, flags: u32, body: &mut Packet) -> Command
+    requires { body.old ≡ [] }
+    ensures { asked_of result body.new ≡ record { command = 0x15; version = 1; body = flash_protect_ask mask flags; want = 12 } }
 {
-    let mut body = Packet::new();
-    FlashProtectAsk { mask, flags }.write(&mut body);
+    FlashProtectAsk { mask, flags }.write(body);
     Command {
         number: 0x15,
         version: 1,
-        body,
         want: 12,
     }
 }
 
 // Bytes with zeros behind them.
-fn padded(bytes: &[u8]) -> [u8; 32]
+fn padded(bytes: &HexBytes<'_>) -> [u8; 32]
     requires { length bytes.now ≤ 32 }
     ensures { result ≡ zero_padded 32 bytes.now }
 {
     let mut buf = [0; 32];
-    buf[..bytes.len()].copy_from_slice(bytes);
+    bytes.decode(0, &mut buf[..bytes.len()]);
     buf
 }
 
 // TEST_PROTOCOL.
-fn test(ec_result: u32, ret_len: u32, bytes: &[u8]) -> Command
-    requires { length bytes.now ≤ 32 }
-    ensures { asked_of result ≡ test_command ec_result ret_len bytes.now }
+fn test(ec_result: u32, ret_len: u32, bytes: &HexBytes<'_>, body: &mut Packet) -> Command
+    requires short { length bytes.now ≤ 32 }
+    requires empty { body.old ≡ [] }
+    ensures { asked_of result body.new ≡ test_command ec_result ret_len bytes.now }
 {
-    let mut body = Packet::new();
     let ask = TestAsk {
         ec_result,
         ret_len,
         buf: padded(bytes),
     };
-    ask.write(&mut body);
+    ask.write(body);
     Command {
         number: 0x0A,
         version: 0,
-        body,
         want: ret_len as usize,
     }
 }
 
 // FLASH_READ of part `k` of a range, with at most `most` bytes in each part.
-fn read(at: u32, size: usize, most: usize, k: usize) -> Command
+fn read(at: u32, size: usize, most: usize, k: usize, body: &mut Packet) -> Command
     requires short { size ≤ 4096 }
     requires least { 100 ≤ most }
     requires most { most ≤ 544 }
     requires there { k < parts_of most size }
-    ensures { asked_of result ≡ read_command (at + k * most) (min most (size - k * most)) }
+    requires empty { body.old ≡ [] }
+    ensures { asked_of result body.new ≡ read_command (at + k * most) (min most (size - k * most)) }
 {
     let done = k * most;
     let part = min(most, size - done);
-    let mut body = Packet::new();
     let ask = FlashReadAsk {
         offset: at.wrapping_add(done as u32),
         size: part as u32,
     };
-    ask.write(&mut body);
+    ask.write(body);
     Command {
         number: 0x11,
         version: 0,
-        body,
         want: part,
     }
 }
 
 // FLASH_WRITE of part `k` of some bytes, with at most `most` in each part.
-fn write(at: u32, bytes: &[u8], most: usize, k: usize) -> Command
+fn write(at: u32, bytes: &HexBytes<'_>, most: usize, k: usize, body: &mut Packet) -> Command
     requires short { length bytes.now ≤ 4096 }
     requires least { 100 ≤ most }
     requires most { most ≤ 528 }
     requires there { k < parts_of most (length bytes.now) }
-    ensures { asked_of result ≡ write_command (at + k * most) (take most (drop (k * most) bytes.now)) }
+    requires empty { body.old ≡ [] }
+    ensures { asked_of result body.new ≡ write_command (at + k * most) (take most (drop (k * most) bytes.now)) }
 {
     let done = k * most;
-    let (_, rest) = bytes.split_at(done);
-    let (part, _) = rest.split_at(min(most, rest.len()));
-    let mut data = Packet::new();
-    data.extend(part);
-    let mut body = Packet::new();
+    let mut buffer = [0; 528];
+    let part = &mut buffer[..min(most, bytes.len() - done)];
+    bytes.decode(done, part);
     let ask = FlashWriteAsk {
         offset: at.wrapping_add(done as u32),
-        bytes: data,
+        bytes: part,
     };
-    ask.write(&mut body);
+    ask.write(body);
     Command {
         number: 0x12,
         version: 1,
-        body,
         want: 0,
     }
 }

@@ -1,5 +1,6 @@
 // Reading a line.
 ghost use Rattle.std.specs.Prelude.{◌≡◌, ◌∷◌, IfOk, IfSome};
+ghost use Rattle.script_words.specs.Lines.{checked};
 ghost use Rattle.script_words.specs.Words.{words_of};
 ghost use Rattle.script_words.specs.Forms.{alone, with_one, with_two, with_three, number_to, hex_to};
 ghost use Rattle.ectool_lines.specs.Tools.{region_named, region_to, protect_named, protect_bits, protect_form, protect_by, tool_of, tool_by, IsInRange};
@@ -8,24 +9,33 @@ use crate::Tool;
 use ec_types::Why;
 use flash_dev::Region;
 use script_words::{
-    check_line, hex_to, is_word, next_word, no_words, number_to, one_word, three_words, two_words,
+    HexBytes, check_line, is_word, next_word, no_words, number_to, one_word, three_words, two_words,
 };
 
 /// What a line without its line feed says, or the first thing that is wrong with it: `TooLong`, `Ascii`, then `Word` where
 /// no line begins with its first word, `Count` where none with that first word has so many words, and at last `Number` or
-/// `Hex` for the first word from the left that is not what it should be. A line that does nothing (`is_idle` tells it) is
-/// no such line, and gives `Word`.
-pub fn parse(line: &[u8]) -> Result<Tool, Why>
+/// `Hex` for the first word from the left that is not what it should be. A line that does nothing, as one that begins with
+/// `#`, is no such line, and gives `Word`.
+pub fn parse(line: &[u8]) -> Result<Tool<'_>, Why>
     ensures tool { result ≡ tool_of line.now }
     ensures within { IfOk result IsInRange }
 {
     check_line(line)?;
+    parse_checked(line)
+}
+
+/// The same for a line that `check_line` found nothing wrong with.
+pub fn parse_checked(line: &[u8]) -> Result<Tool<'_>, Why>
+    requires { checked line.now ≡ Ok tt }
+    ensures tool { result ≡ tool_of line.now }
+    ensures within { IfOk result IsInRange }
+{
     let (first, rest) = next_word(line).ok_or(Why::Word)?;
     by_words(first, rest)
 }
 
 // The line with this first word, and the others after it.
-fn by_words(first: &[u8], rest: &[u8]) -> Result<Tool, Why>
+fn by_words<'a>(first: &[u8], rest: &'a [u8]) -> Result<Tool<'a>, Why>
     ensures tool { result ≡ tool_by (first.now ∷ words_of rest.now) }
     ensures within { IfOk result IsInRange }
 {
@@ -57,16 +67,16 @@ fn by_words(first: &[u8], rest: &[u8]) -> Result<Tool, Why>
 }
 
 // A first word that stands alone.
-fn alone(tool: Tool, words: &[u8]) -> Result<Tool, Why>
+fn alone(tool: Tool<'static>, words: &[u8]) -> Result<Tool<'static>, Why>
     requires { IsInRange tool }
-    ensures tool { result ≡ alone tool (words_of words.now) }
+    ensures tool { result ≡ alone tool.entry (words_of words.now) }
     ensures within { IfOk result IsInRange }
 {
     no_words(words)?;
     Ok(tool)
 }
 
-fn cmd_versions(words: &[u8]) -> Result<Tool, Why>
+fn cmd_versions(words: &[u8]) -> Result<Tool<'_>, Why>
     ensures tool { result ≡ with_one (number_to 65535) Tool.CmdVersions (words_of words.now) }
     ensures within { IfOk result IsInRange }
 {
@@ -93,7 +103,7 @@ fn region_named(word: &[u8]) -> Option<Region>
     }
 }
 
-fn region_info(words: &[u8]) -> Result<Tool, Why>
+fn region_info(words: &[u8]) -> Result<Tool<'_>, Why>
     ensures tool { result ≡ with_one region_to Tool.RegionInfo (words_of words.now) }
     ensures within { IfOk result IsInRange }
 {
@@ -102,7 +112,7 @@ fn region_info(words: &[u8]) -> Result<Tool, Why>
     Ok(Tool::RegionInfo { region })
 }
 
-fn flash_read(words: &[u8]) -> Result<Tool, Why>
+fn flash_read(words: &[u8]) -> Result<Tool<'_>, Why>
     ensures tool { result ≡ with_two (number_to 4294967295) (number_to 4096) Tool.FlashRead (words_of words.now) }
     ensures within { IfOk result IsInRange }
 {
@@ -113,18 +123,18 @@ fn flash_read(words: &[u8]) -> Result<Tool, Why>
     })
 }
 
-fn flash_write(words: &[u8]) -> Result<Tool, Why>
+fn flash_write(words: &[u8]) -> Result<Tool<'_>, Why>
     ensures tool { result ≡ with_two (number_to 4294967295) (hex_to 4096) Tool.FlashWrite (words_of words.now) }
     ensures within { IfOk result IsInRange }
 {
     let (at, bytes) = two_words(words)?;
     Ok(Tool::FlashWrite {
         at: number_to(at, u32::MAX)?,
-        bytes: hex_to(bytes, 4096)?,
+        bytes: HexBytes::of_word(bytes, 4096)?,
     })
 }
 
-fn flash_protect(words: &[u8]) -> Result<Tool, Why>
+fn flash_protect(words: &[u8]) -> Result<Tool<'_>, Why>
     ensures tool { result ≡ protect_by (words_of words.now) }
     ensures within { IfOk result IsInRange }
 {
@@ -135,7 +145,7 @@ fn flash_protect(words: &[u8]) -> Result<Tool, Why>
 }
 
 // `flashprotect` behind the word of its form.
-fn protect_form(form: &[u8], words: &[u8]) -> Result<Tool, Why>
+fn protect_form(form: &[u8], words: &[u8]) -> Result<Tool<'static>, Why>
     ensures tool { result ≡ protect_form form.now (words_of words.now) }
     ensures within { IfOk result IsInRange }
 {
@@ -146,7 +156,7 @@ fn protect_form(form: &[u8], words: &[u8]) -> Result<Tool, Why>
 }
 
 // What a form of `flashprotect` asks for that is a single word.
-fn protect_named(form: &[u8]) -> Option<Tool>
+fn protect_named(form: &[u8]) -> Option<Tool<'static>>
     ensures tool { result ≡ protect_named form.now }
     ensures within { IfSome result IsInRange }
 {
@@ -162,7 +172,7 @@ fn protect_named(form: &[u8]) -> Option<Tool>
 }
 
 // `flashprotect bits M F`.
-fn protect_bits(form: &[u8], words: &[u8]) -> Result<Tool, Why>
+fn protect_bits(form: &[u8], words: &[u8]) -> Result<Tool<'static>, Why>
     ensures tool { result ≡ protect_bits form.now (words_of words.now) }
     ensures within { IfOk result IsInRange }
 {
@@ -176,7 +186,7 @@ fn protect_bits(form: &[u8], words: &[u8]) -> Result<Tool, Why>
     })
 }
 
-fn test(words: &[u8]) -> Result<Tool, Why>
+fn test(words: &[u8]) -> Result<Tool<'_>, Why>
     ensures tool { result ≡ with_three (number_to 4294967295) (number_to 32) (hex_to 32) Tool.Test (words_of words.now) }
     ensures within { IfOk result IsInRange }
 {
@@ -184,6 +194,6 @@ fn test(words: &[u8]) -> Result<Tool, Why>
     Ok(Tool::Test {
         ec_result: number_to(ec_result, u32::MAX)?,
         ret_len: number_to(ret_len, 32)?,
-        bytes: hex_to(bytes, 32)?,
+        bytes: HexBytes::of_word(bytes, 32)?,
     })
 }

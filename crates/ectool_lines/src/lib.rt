@@ -8,8 +8,9 @@ mod sending;
 mod text;
 mod tool;
 
-pub use grammar::parse;
-pub use sending::{ToolErr, run};
+pub use grammar::{parse, parse_checked};
+pub use sending::{Buffers, ToolErr, run};
+pub use text::LineText;
 pub use tool::Tool;
 
 #[cfg(test)]

@@ -8,14 +8,13 @@ ghost use Rattle.ectool_lines.specs.declared.tool.Tool.TheVariants as tool;
 
 use crate::Tool;
 use crate::text::LineText;
-use ec_packet::Packet;
 use ec_params::{
     ChipSay, CmdVersionsSay, FlashInfoSay1, FlashProtectSay, ProtoInfoSay, RegionInfoSay,
 };
 
 impl LineText {
     /// Appends what the reply to a command of the line gives to its text.
-    pub(crate) fn add_reply(&mut self, tool: &Tool, reply: &Packet)
+    pub(crate) fn add_reply(&mut self, tool: &Tool<'_>, reply: &[u8])
         requires sized { (k : ℕ) × (length reply.now ≡ (command_of 256 tool.now k).want) }
         requires few { length reply.now ≤ 248 }
         requires fits { length self.old ≤ 11500 }
@@ -24,13 +23,13 @@ impl LineText {
     {
         match tool {
             Tool::Hello | Tool::FlashWrite { .. } | Tool::Resend => {}
-            Tool::ChipInfo => self.add_chip(reply.as_slice()),
-            Tool::CmdVersions { .. } => self.add_versions(reply.as_slice()),
-            Tool::ProtoInfo => self.add_proto_info(reply.as_slice()),
-            Tool::FlashInfo => self.add_flash_info(reply.as_slice()),
-            Tool::RegionInfo { .. } => self.add_range(reply.as_slice()),
-            Tool::FlashProtect { .. } => self.add_protection(reply.as_slice()),
-            Tool::FlashRead { .. } | Tool::Test { .. } => self.append_hex(reply.as_slice()),
+            Tool::ChipInfo => self.add_chip(reply),
+            Tool::CmdVersions { .. } => self.add_versions(reply),
+            Tool::ProtoInfo => self.add_proto_info(reply),
+            Tool::FlashInfo => self.add_flash_info(reply),
+            Tool::RegionInfo { .. } => self.add_range(reply),
+            Tool::FlashProtect { .. } => self.add_protection(reply),
+            Tool::FlashRead { .. } | Tool::Test { .. } => self.append_hex(reply),
         }
     }
 

@@ -1,5 +1,5 @@
 // A line, carried out: its commands are sent one after the other.
-ghost use Rattle.std.specs.Prelude.{◌≡◌, ◌≤◌, ◌+◌, [], length};
+ghost use Rattle.std.specs.Prelude.{◌≡◌, ◌≤◌, ◌+◌, length, drop};
 ghost use Rattle.flash_dev.specs.Counts.{Rose};
 ghost use Rattle.ec_types.specs.declared.bus.BusKind.TheVariants.{Lpc as LpcKind};
 ghost use Rattle.ectool_lines.specs.Tools.{IsInRange};
@@ -33,9 +33,35 @@ pub enum ToolErr {
     NoMemory,
 }
 
+/// What lines are carried out in: the text of the one at hand, and the packets of its commands. What they had is no matter.
+#[derive(Drop)]
+pub struct Buffers {
+    pub text: LineText,
+    body: Packet,
+    packet: Packet,
+    reply: Packet,
+}
+
+impl Buffers {
+    /// All of them empty.
+    pub fn new() -> Buffers {
+        Buffers {
+            text: LineText::new(),
+            body: Packet::new(),
+            packet: Packet::new(),
+            reply: Packet::new(),
+        }
+    }
+}
+
 /// Carries out a line and prints its text: its commands are sent once each, up to the first that is not answered with
 /// success.
-pub fn run<W: Wire, K: Sink>(w: &mut W, tool: &Tool, sink: &mut K) -> Result<(), ToolErr>
+pub fn run<W: Wire, K: Sink>(
+    w: &mut W,
+    tool: &Tool<'_>,
+    buffers: &mut Buffers,
+    sink: &mut K,
+) -> Result<(), ToolErr>
     requires bus { (W.view w.old).bus ≡ LpcKind }
     requires within { IsInRange tool.now }
     ensures runs { RunsTool result tool.now (W.view w.old) (W.view w.new) (K.written sink.old) (K.written sink.new) }
@@ -46,52 +72,60 @@ pub fn run<W: Wire, K: Sink>(w: &mut W, tool: &Tool, sink: &mut K) -> Result<(),
         Ok(()) => {}
         Err(_) => return Err(ToolErr::NoMemory),
     }
-    let mut text = LineText::new();
-    carry_out(w, tool, &mut text);
-    match put_all(sink, text.as_bytes()) {
+    carry_out(w, tool, buffers);
+    match put_all(sink, buffers.text.as_bytes()) {
         Ok(()) => Ok(()),
         Err(Failed) => Err(ToolErr::Sink),
     }
 }
 
 // Sends the line's commands, up to the first that is not answered with success, and leaves the line's text.
-fn carry_out<W: Wire>(w: &mut W, tool: &Tool, text: &mut LineText)
+fn carry_out<W: Wire>(w: &mut W, tool: &Tool<'_>, buffers: &mut Buffers)
     requires bus { (W.view w.old).bus ≡ LpcKind }
     requires room { 200000 ≤ (W.view w.old).spare }
     requires within { IsInRange tool.now }
-    requires empty { text.old ≡ [] }
-    ensures { CarriesTool tool.now text.new (W.view w.old) (W.view w.new) }
+    ensures { CarriesTool tool.now buffers.new.text (W.view w.old) (W.view w.new) }
 {
     let limit = limit_of(w.kind());
-    let mut reply = Packet::new();
+    buffers.text.clear();
     for k in 0..tool.count(limit) {
-        let command = tool.command(limit, k);
-        let ended = send(w, &command, &mut reply);
+        let command = tool.command(limit, k, &mut buffers.body);
+        let ended = send(w, command, buffers);
         if !ended.is_success() {
-            text.refuse(ended);
+            buffers.text.refuse(ended);
             return;
         }
-        text.add_reply(tool, &reply);
+        buffers.text.add_reply(tool, behind_header(&buffers.reply));
     }
-    text.close(tool);
+    buffers.text.close(tool);
 }
 
-// Sends a command once.
-fn send<W: Wire>(w: &mut W, command: &Command, reply: &mut Packet) -> Once
+// Sends a command once, whose body stands in its buffer.
+fn send<W: Wire>(w: &mut W, command: Command, buffers: &mut Buffers) -> Once
     requires bus { (W.view w.old).bus ≡ LpcKind }
     requires room { 1500 ≤ (W.view w.old).spare }
-    requires short { 8 + length command.now.body ≤ 256 }
-    requires plain { IsPlain (packet_of (asked_of command.now)) }
-    ensures asks { AsksOnce (packet_of (asked_of command.now)) command.now.want (ending_of result reply.new) (W.view w.old) (W.view w.new) }
-    ensures want { result ≡ Once.Status 0 → length reply.new ≡ command.now.want }
+    requires short { 8 + length buffers.old.body ≤ 256 }
+    requires plain { IsPlain (packet_of (asked_of command buffers.old.body)) }
+    ensures asks { AsksOnce (packet_of (asked_of command buffers.old.body)) command.want (ending_of result (drop 8 buffers.new.reply)) (W.view w.old) (W.view w.new) }
+    ensures want { result ≡ Once.Status 0 → length buffers.new.reply ≡ 8 + command.want }
     ensures room { (W.view w.old).spare ≤ (W.view w.new).spare + 531 }
+    ensures text { buffers.new.text ≡ buffers.old.text }
 {
     once(
         w,
         command.number,
         command.version,
-        command.body.as_slice(),
+        buffers.body.as_slice(),
         command.want,
-        reply,
+        &mut buffers.packet,
+        &mut buffers.reply,
     )
+}
+
+// The body of a packet.
+fn behind_header(packet: &Packet) -> &[u8]
+    requires { 8 ≤ length packet.now }
+    ensures { result.now ≡ drop 8 packet.now }
+{
+    &packet.as_slice()[8..]
 }

@@ -24,7 +24,9 @@ fn lines_are_read(rt: HostRuntime) {
     match parse(b"flashwrite 0x8000 f0F0f00f") {
         Ok(Tool::FlashWrite { at, bytes }) => {
             assert_eq!(rt; at, 0x8000);
-            assert_eq!(rt; bytes.as_slice(), [0xF0, 0xF0, 0xF0, 0x0F].as_slice());
+            let mut decoded = [0; 4];
+            bytes.decode(0, &mut decoded);
+            assert_eq!(rt; decoded, [0xF0, 0xF0, 0xF0, 0x0F]);
         }
         _ => assert!(rt; false),
     }
@@ -60,7 +62,9 @@ fn questions_are_read(rt: HostRuntime) {
         ) => {
             assert_eq!(rt; ec_result, 16);
             assert_eq!(rt; ret_len, 4);
-            assert_eq!(rt; bytes.as_slice(), [10, 11].as_slice());
+            let mut decoded = [0; 2];
+            bytes.decode(0, &mut decoded);
+            assert_eq!(rt; decoded, [10, 11]);
         }
         _ => assert!(rt; false),
     }

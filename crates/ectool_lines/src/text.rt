@@ -1,5 +1,5 @@
 // The texts that lines print.
-ghost use Rattle.std.specs.Prelude.{◌≡◌, ◌≤◌, ◌+◌, ◌*◌, ◌++◌, ◌==◌, [], ℕ, List, length, codes};
+ghost use Rattle.std.specs.Prelude.{◌≡◌, ◌≤◌, ◌+◌, ◌*◌, ◌++◌, ◌∷◌, ◌==◌, [], ℕ, List, length, codes};
 ghost use Rattle.std.specs.Fmt.{decimal};
 ghost use Rattle.std.specs.List.{position_or_len};
 ghost use Rattle.hex.specs.Hex.{encode_lower};
@@ -54,7 +54,7 @@ impl LineText {
     }
 
     /// Appends bytes that fit.
-    pub(crate) fn append(&mut self, bytes: &[u8])
+    pub fn append(&mut self, bytes: &[u8])
         requires { length self.old + length bytes.now ≤ 12288 }
         ensures { self.new ≡ self.old ++ bytes.now }
     {
@@ -64,6 +64,20 @@ impl LineText {
         }
     }
 
+    /// Appends a byte as two lower case hexadecimal digits.
+    pub fn append_byte(&mut self, byte: u8)
+        requires { length self.old + 2 ≤ 12288 }
+        ensures text { self.new ≡ self.old ++ encode_lower (byte ∷ []) }
+        ensures long { length self.new ≡ length self.old + 2 }
+    {
+        let mut digits = [0; 2];
+        match hex::encode_to_slice(&[byte], &mut digits) {
+            Ok(()) => {}
+            Err(_) => unreachable!(),
+        }
+        self.append(&digits);
+    }
+
     /// Appends bytes as two lower case hexadecimal digits each.
     pub(crate) fn append_hex(&mut self, bytes: &[u8])
         requires few { length bytes.now ≤ 544 }
@@ -71,13 +85,9 @@ impl LineText {
         ensures text { self.new ≡ self.old ++ encode_lower bytes.now }
         ensures long { length self.new ≡ length self.old + 2 * length bytes.now }
     {
-        let mut buffer = [0; 1088];
-        let digits = &mut buffer[..2 * bytes.len()];
-        match hex::encode_to_slice(bytes, digits) {
-            Ok(()) => {}
-            Err(_) => unreachable!(),
+        for byte in bytes {
+            self.append_byte(*byte);
         }
-        self.append(digits);
     }
 
     /// Appends a label and a decimal number behind it.
@@ -155,21 +165,21 @@ impl LineText {
     }
 
     // How the text of a line ends that was a success, but for its line feed.
-    fn append_closing(&mut self, tool: &Tool)
+    fn append_closing(&mut self, tool: &Tool<'_>)
         requires { length self.old ≤ 12000 }
         ensures text { self.new ≡ self.old ++ closing_text tool.now }
         ensures short { length self.new ≤ length self.old + 64 }
     {
         match tool {
             Tool::Hello => self.append(b"EC says hello!"),
-            Tool::FlashWrite { at: _, bytes } => self.append_written(bytes.as_slice().len()),
+            Tool::FlashWrite { at: _, bytes } => self.append_written(bytes.len()),
             Tool::Resend => self.append(b"ok"),
             _ => {}
         }
     }
 
     /// Ends the text of a line that was a success.
-    pub(crate) fn close(&mut self, tool: &Tool)
+    pub(crate) fn close(&mut self, tool: &Tool<'_>)
         requires { length self.old ≤ 12000 }
         ensures { self.new ≡ printed (self.old ++ closing_text tool.now) }
     {

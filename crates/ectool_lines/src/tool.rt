@@ -1,10 +1,10 @@
 // What a line asks of the controller.
-use ec_types::LineBytes;
 use flash_dev::Region;
+use script_words::HexBytes;
 
-/// A line that sends commands to the controller, with its numbers and bytes.
+/// A line that sends commands to the controller, with its numbers, and its bytes where they stand in it.
 #[derive(Drop)]
-pub enum Tool {
+pub enum Tool<'a> {
     /// `hello`
     Hello,
     /// `chipinfo`
@@ -34,7 +34,7 @@ pub enum Tool {
         /// Where the first byte goes, from the flash's first byte.
         at: u32,
         /// At least one byte, and at most 4,096.
-        bytes: LineBytes,
+        bytes: HexBytes<'a>,
     },
     /// `flashprotect` in its five forms
     FlashProtect {
@@ -50,7 +50,7 @@ pub enum Tool {
         /// How many bytes are wanted back, at most 32.
         ret_len: u32,
         /// At least one byte, and at most 32.
-        bytes: LineBytes,
+        bytes: HexBytes<'a>,
     },
     /// `resend`
     Resend,

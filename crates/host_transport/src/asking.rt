@@ -1,5 +1,5 @@
 // One request, sent once. The bus is LPC until the others are built.
-ghost use Rattle.std.specs.Prelude.{◌≡◌, ◌≤◌, ◌+◌, length, IsTrue};
+ghost use Rattle.std.specs.Prelude.{◌≡◌, ◌≤◌, ◌+◌, length, drop, IsTrue};
 ghost use Rattle.ec_types.specs.declared.bus.BusKind.TheVariants.{Lpc as LpcKind};
 ghost use Rattle.ec_model.specs.Packet.{request_packet, is_response, response_view};
 ghost use Rattle.host_runs.specs.Served.{IsPlain};
@@ -12,33 +12,34 @@ use ec_types::limit_of;
 use ec_wire::Wire;
 use host_framing::{Raw, send_lpc};
 
-/// Sends a request once. At a status, `reply` is the body of the reply; a success has `want` bytes. It takes at most
-/// 531 entries of the wire's room, and asks for 1,500.
+/// Sends a request once; `packet` becomes its packet. At a status, `reply` is the reply, whose body stands behind the
+/// header's 8 bytes; a success has a body of `want` bytes. It takes at most 531 entries of the wire's room, and asks for
+/// 1,500.
 pub fn once<W: Wire>(
     w: &mut W,
     command: u16,
     version: u8,
     body: &[u8],
     want: usize,
+    packet: &mut Packet,
     reply: &mut Packet,
 ) -> Once
     requires bus { (W.view w.old).bus ≡ LpcKind }
     requires room { 1500 ≤ (W.view w.old).spare }
     requires short { 8 + length body.now ≤ 256 }
     requires plain { IsPlain (request_packet command version body.now) }
-    ensures asks { AsksOnce (request_packet command version body.now) want (ending_of result reply.new) (W.view w.old) (W.view w.new) }
-    ensures want { result ≡ Once.Status 0 → length reply.new ≡ want }
+    ensures asks { AsksOnce (request_packet command version body.now) want (ending_of result (drop 8 reply.new)) (W.view w.old) (W.view w.new) }
+    ensures want { result ≡ Once.Status 0 → length reply.new ≡ 8 + want }
     ensures room { (W.view w.old).spare ≤ (W.view w.new).spare + 531 }
 {
     if !w.power() {
         return Once::NoPower;
     }
-    let mut packet = Packet::new();
-    match encode_request(command, version, body, limit_of(w.kind()), &mut packet) {
+    match encode_request(command, version, body, limit_of(w.kind()), packet) {
         Ok(()) => {}
         Err(TooLong) => unreachable!(),
     }
-    let raw = send_lpc(w, &packet, reply);
+    let raw = send_lpc(w, packet, reply);
     if !w.power() {
         return Once::NoPower;
     }
@@ -49,20 +50,18 @@ pub fn once<W: Wire>(
     }
 }
 
-// What a reply says; its body takes its place.
-fn read_reply(want: usize, reply: &mut Packet) -> Once
-    requires { IsTrue (is_response reply.old) }
-    ensures ending { ending_of result reply.new ≡ said_by want (response_view reply.old) }
-    ensures want { result ≡ Once.Status 0 → length reply.new ≡ want }
+// What a reply says.
+fn read_reply(want: usize, reply: &Packet) -> Once
+    requires { IsTrue (is_response reply.now) }
+    ensures ending { ending_of result (drop 8 reply.now) ≡ said_by want (response_view reply.now) }
+    ensures want { result ≡ Once.Status 0 → length reply.now ≡ 8 + want }
 {
     match decode_response(reply.as_slice()) {
         Ok(response) => {
-            let status = response.status;
-            *reply = response.body;
-            if status == 0 && reply.len() != want {
+            if response.status == 0 && response.body.len() != want {
                 Once::Bad
             } else {
-                Once::Status(status)
+                Once::Status(response.status)
             }
         }
         Err(_) => Once::Bad,

@@ -1,7 +1,8 @@
 -- A raw line, carried out and printed.
 use Rattle.std.specs.Prelude.{◌≡◌, ◌≤◌, ℕ, List, [], length, Option, Result, Ok, Err}
 use Rattle.ec_model.specs.HostCalls.{HostCall}
-use Rattle.ec_model.specs.Heard.{port_writes}
+use Rattle.hex.specs.Hex.{encode_lower}
+use Rattle.ec_model.specs.Heard.{port_reads, port_writes}
 use Rattle.ec_wire.specs.Calls.{WireView, Made, with_spare}
 use Rattle.ectool_lines.specs.declared.sending.ToolErr.{ToolErr}
 use Rattle.ectool_lines.specs.declared.sending.ToolErr.TheVariants.{Sink, NoMemory}
@@ -40,3 +41,10 @@ pub record WritesPorts (port : ℕ) (bytes : List ℕ) (old new : WireView) : Ty
   pub gots : List ℕ
   pub each : length gots ≡ length bytes
   pub made : Made (port_writes port bytes gots) old new
+
+-- so many ports were read from this one on, and this is the text of the bytes that the host got
+pub record ReadsPorts (port count : ℕ) (text : List ℕ) (old new : WireView) : Type 0 where
+  pub bytes : List ℕ
+  pub each : length bytes ≡ count
+  pub made : Made (port_reads port bytes) old new
+  pub text_is : text ≡ encode_lower bytes

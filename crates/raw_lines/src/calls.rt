@@ -1,14 +1,13 @@
 // Calls of the host, one after the other.
-ghost use Rattle.std.specs.Prelude.{◌≡◌, ◌≤◌, ◌+◌, [], length, replicate};
+ghost use Rattle.std.specs.Prelude.{◌≡◌, ◌≤◌, ◌+◌, ◌*◌, [], length, replicate};
 ghost use Rattle.ec_model.specs.HostCalls.{Waited};
-ghost use Rattle.ec_model.specs.Heard.{port_reads};
 ghost use Rattle.ec_wire.specs.Calls.{Made};
-ghost use Rattle.raw_lines.specs.Making.{Reserves, WritesPorts};
+ghost use Rattle.raw_lines.specs.Making.{Reserves, WritesPorts, ReadsPorts};
 
 use ec_model::Access;
-use ec_types::LineBytes;
 use ec_wire::Wire;
-use ectool_lines::ToolErr;
+use ectool_lines::{LineText, ToolErr};
+use script_words::HexBytes;
 
 /// Makes room for so many calls.
 pub fn reserve<W: Wire>(w: &mut W, calls: usize) -> Result<(), ToolErr>
@@ -31,31 +30,30 @@ pub fn wait_times<W: Wire>(w: &mut W, count: u32)
 }
 
 /// Writes the bytes to the ports from this one on.
-pub fn write_in_row<W: Wire>(w: &mut W, port: u16, bytes: &[u8])
+pub fn write_in_row<W: Wire>(w: &mut W, port: u16, bytes: &HexBytes<'_>)
     requires ports { port + length bytes.now ≤ 65536 }
     requires room { length bytes.now ≤ (W.view w.old).spare }
     ensures { WritesPorts port bytes.now (W.view w.old) (W.view w.new) }
 {
-    for (place, byte) in bytes.iter().enumerate() {
+    for place in 0..bytes.len() {
         w.access(Access::PortOut {
             port: port + place as u16,
-            byte: *byte,
+            byte: bytes.byte(place),
         });
     }
 }
 
-/// Reads so many ports from this one on.
-pub fn read_in_row<W: Wire>(w: &mut W, port: u16, count: u16) -> LineBytes
+/// Reads so many ports from this one on, and appends the bytes that the host got to the text.
+pub fn read_in_row<W: Wire>(w: &mut W, port: u16, count: u16, text: &mut LineText)
     requires ports { port + count ≤ 65536 }
     requires few { count ≤ 4096 }
     requires room { count ≤ (W.view w.old).spare }
-    ensures each { length result ≡ count }
-    ensures made { Made (port_reads port result) (W.view w.old) (W.view w.new) }
+    requires empty { text.old ≡ [] }
+    ensures reads { ReadsPorts port count text.new (W.view w.old) (W.view w.new) }
+    ensures long { length text.new ≡ 2 * count }
 {
-    let mut bytes = LineBytes::new();
     for place in 0..count {
         let byte = w.access(Access::PortIn { port: port + place });
-        bytes.extend(&[byte]);
+        text.append_byte(byte);
     }
-    bytes
 }

@@ -5,10 +5,11 @@ ghost use Rattle.raw_lines.specs.Raw.{Waits, Writes, Reads};
 ghost use Rattle.raw_lines.specs.Making.{RunsRaw};
 
 use crate::calls::{read_in_row, reserve, wait_times, write_in_row};
-use crate::printing::{print, print_hex};
+use crate::printing::print;
 use bench_io::Sink;
 use ec_wire::Wire;
-use ectool_lines::ToolErr;
+use ectool_lines::{LineText, ToolErr};
+use script_words::HexBytes;
 
 /// Waits so often, and prints `ok`.
 pub fn tick<W: Wire, K: Sink>(w: &mut W, count: u32, sink: &mut K) -> Result<(), ToolErr>
@@ -25,7 +26,7 @@ pub fn tick<W: Wire, K: Sink>(w: &mut W, count: u32, sink: &mut K) -> Result<(),
 pub fn write_ports<W: Wire, K: Sink>(
     w: &mut W,
     port: u16,
-    bytes: &[u8],
+    bytes: &HexBytes<'_>,
     sink: &mut K,
 ) -> Result<(), ToolErr>
     requires { port + length bytes.now ≤ 65536 }
@@ -38,11 +39,13 @@ pub fn write_ports<W: Wire, K: Sink>(
     print(sink, b"ok\n")
 }
 
-/// Reads so many ports from this one on, and prints the bytes that the host got.
+/// Reads so many ports from this one on, and prints the bytes that the host got, as two lower case hexadecimal digits each.
+/// The text is made in `text`, whatever it had.
 pub fn read_ports<W: Wire, K: Sink>(
     w: &mut W,
     port: u16,
     count: u16,
+    text: &mut LineText,
     sink: &mut K,
 ) -> Result<(), ToolErr>
     requires ports { port + count ≤ 65536 }
@@ -52,6 +55,8 @@ pub fn read_ports<W: Wire, K: Sink>(
     ensures later { K.faults sink.old ≤ K.faults sink.new }
 {
     reserve(w, usize::from(count))?;
-    let bytes = read_in_row(w, port, count);
-    print_hex(sink, bytes.as_slice())
+    text.clear();
+    read_in_row(w, port, count, text);
+    text.append(b"\n");
+    print(sink, text.as_bytes())
 }

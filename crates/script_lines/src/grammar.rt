@@ -6,31 +6,29 @@ ghost use Rattle.script_lines.specs.Lines.{switch_to, switch_named, cause_to, ca
 
 use crate::Line;
 use ec_model::WorldReset;
-use ec_types::{LineBytes, Why};
-use script_words::{
-    check_line, hex_to, is_idle, is_word, next_word, number_to, one_word, two_words,
-};
+use ec_types::Why;
+use script_words::{HexBytes, check_line, is_word, next_word, number_to, one_word, two_words};
 
 /// What a line without its line feed says, or the first thing that is wrong with it: `TooLong`, `Ascii`, then, where its
 /// first word is one of these lines', `Count` where none with that first word has so many words, and at last `Word`,
 /// `Number` or `Hex` for the first word from the left that is not what it should be. Ports above 65,535 are told as
 /// `Number` where each word for itself is what it should be.
-pub fn parse(line: &[u8]) -> Result<Line, Why>
+pub fn parse(line: &[u8]) -> Result<Line<'_>, Why>
     ensures line { result ≡ line_of line.now }
     ensures within { IfOk result IsInRange }
 {
-    if is_idle(line) {
+    check_line(line)?;
+    if line.starts_with(b"#") {
         return Ok(Line::Nothing);
     }
-    check_line(line)?;
     match next_word(line) {
         Some((first, rest)) => by_words(first, rest),
-        None => Ok(Line::Tool),
+        None => Ok(Line::Nothing),
     }
 }
 
 // The line with this first word, and the others after it.
-fn by_words(first: &[u8], rest: &[u8]) -> Result<Line, Why>
+fn by_words<'a>(first: &[u8], rest: &'a [u8]) -> Result<Line<'a>, Why>
     ensures line { result ≡ line_by (first.now ∷ words_of rest.now) }
     ensures within { IfOk result IsInRange }
 {
@@ -77,7 +75,7 @@ fn cause_named(word: &[u8]) -> Option<WorldReset>
     }
 }
 
-fn pin(words: &[u8]) -> Result<Line, Why>
+fn pin(words: &[u8]) -> Result<Line<'_>, Why>
     ensures line { result ≡ with_one switch_to Line.Pin (words_of words.now) }
     ensures within { IfOk result IsInRange }
 {
@@ -86,7 +84,7 @@ fn pin(words: &[u8]) -> Result<Line, Why>
     Ok(Line::Pin { on })
 }
 
-fn power(words: &[u8]) -> Result<Line, Why>
+fn power(words: &[u8]) -> Result<Line<'_>, Why>
     ensures line { result ≡ with_one switch_to Line.Power (words_of words.now) }
     ensures within { IfOk result IsInRange }
 {
@@ -95,7 +93,7 @@ fn power(words: &[u8]) -> Result<Line, Why>
     Ok(Line::Power { on })
 }
 
-fn reset(words: &[u8]) -> Result<Line, Why>
+fn reset(words: &[u8]) -> Result<Line<'_>, Why>
     ensures line { result ≡ with_one cause_to Line.Reset (words_of words.now) }
     ensures within { IfOk result IsInRange }
 {
@@ -116,7 +114,7 @@ fn count_to(word: &[u8], most: u32) -> Result<u32, Why>
     }
 }
 
-fn tick(words: &[u8]) -> Result<Line, Why>
+fn tick(words: &[u8]) -> Result<Line<'_>, Why>
     ensures line { result ≡ with_one (count_to 100000) Line.Tick (words_of words.now) }
     ensures within { IfOk result IsInRange }
 {
@@ -126,14 +124,14 @@ fn tick(words: &[u8]) -> Result<Line, Why>
     })
 }
 
-fn ports_out(words: &[u8]) -> Result<Line, Why>
+fn ports_out(words: &[u8]) -> Result<Line<'_>, Why>
     ensures line { result ≡ out_by (words_of words.now) }
     ensures within { IfOk result IsInRange }
 {
     let (port, bytes) = two_words(words)?;
     let port = number_to(port, 65535)?;
-    let bytes = hex_to(bytes, 8192)?;
-    if port as usize + bytes.as_slice().len() > 65536 {
+    let bytes = HexBytes::of_word(bytes, 8192)?;
+    if port as usize + bytes.len() > 65536 {
         return Err(Why::Number);
     }
     Ok(Line::PortsOut {
@@ -142,7 +140,7 @@ fn ports_out(words: &[u8]) -> Result<Line, Why>
     })
 }
 
-fn ports_in(words: &[u8]) -> Result<Line, Why>
+fn ports_in(words: &[u8]) -> Result<Line<'_>, Why>
     ensures line { result ≡ in_by (words_of words.now) }
     ensures within { IfOk result IsInRange }
 {

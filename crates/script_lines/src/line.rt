@@ -1,10 +1,10 @@
 // What a line says.
 use ec_model::WorldReset;
-use ec_types::LineBytes;
+use script_words::HexBytes;
 
-/// What a line of a script says.
+/// What a line of a script says. Bytes stand in the line.
 #[derive(Drop)]
-pub enum Line {
+pub enum Line<'a> {
     /// It does nothing: it is empty, has spaces alone, or begins with `#`.
     Nothing,
     /// Its first word is no word of these lines: it is a line that sends commands, or none at all.
@@ -33,7 +33,7 @@ pub enum Line {
         /// The first port.
         port: u16,
         /// At least one byte, one for each port.
-        bytes: LineBytes,
+        bytes: HexBytes<'a>,
     },
     /// `in P N`: ports in a row are read, the last of which is at most 65,535.
     PortsIn {

@@ -22,6 +22,22 @@ fn events_are_read(rt: HostRuntime) {
 }
 
 #[test]
+fn some_lines_do_nothing(rt: HostRuntime) {
+    for line in [
+        b"".as_slice(),
+        b"   ",
+        b"#hello",
+        b"# \x7E",
+        &[b' '; 16_384],
+    ] {
+        assert!(rt; matches!(parse(line), Ok(Line::Nothing)));
+    }
+    assert!(rt; matches!(parse(b" #"), Ok(Line::Tool)));
+    assert!(rt; matches!(parse(b"#\t"), Err(Why::Ascii)));
+    assert!(rt; matches!(parse(&[b' '; 16_385]), Err(Why::TooLong)));
+}
+
+#[test]
 fn ticks_and_ports_are_read(rt: HostRuntime) {
     assert!(rt; matches!(parse(b"tick 100000"), Ok(Line::Tick { count: 100_000 })));
     for (line, want) in [
@@ -35,11 +51,15 @@ fn ticks_and_ports_are_read(rt: HostRuntime) {
         }
     }
     for (line, want) in [
-        (b"out 0x204 dA".as_slice(), (0x204, b"\xDA".as_slice())),
-        (b"out 65534 0a0B", (65_534, b"\x0A\x0B")),
+        (b"out 0x204 dAdA".as_slice(), (0x204, [0xDA, 0xDA])),
+        (b"out 65534 0a0B", (65_534, [0x0A, 0x0B])),
     ] {
         match parse(line) {
-            Ok(Line::PortsOut { port, bytes }) => assert_eq!(rt; (port, bytes.as_slice()), want),
+            Ok(Line::PortsOut { port, bytes }) => {
+                let mut decoded = [0; 2];
+                bytes.decode(0, &mut decoded);
+                assert_eq!(rt; (port, decoded), want);
+            }
             _ => assert!(rt; false),
         }
     }

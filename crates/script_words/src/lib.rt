@@ -6,8 +6,8 @@ mod line;
 mod numbers;
 mod words;
 
-pub use hexes::{hex_bytes, hex_to};
-pub use line::{check_line, is_idle};
+pub use hexes::HexBytes;
+pub use line::check_line;
 pub use numbers::{number, number_to};
 pub use words::{is_word, next_word, no_words, one_word, three_words, two_words};
 

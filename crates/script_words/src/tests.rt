@@ -1,5 +1,6 @@
-// What words are numbers, and which lines do nothing.
-use crate::{is_idle, number};
+// What words are numbers, and which are bytes.
+use crate::{HexBytes, number};
+use std::test::Fail;
 
 #[test]
 fn numbers_have_two_bases(rt: HostRuntime) {
@@ -12,13 +13,15 @@ fn numbers_have_two_bases(rt: HostRuntime) {
 }
 
 #[test]
-fn some_lines_do_nothing(rt: HostRuntime) {
-    for line in [b"".as_slice(), b"   ", b"#hello", b"# \x7E"] {
-        assert!(rt; is_idle(line));
+fn bytes_are_decoded_where_they_stand(rt: HostRuntime) -> Result<(), Fail> {
+    let bytes = HexBytes::of(b"00fFA7", 3).ok_or("the word spells bytes")?;
+    assert_eq!(rt; bytes.len(), 3);
+    let mut part = [0; 2];
+    bytes.decode(1, &mut part);
+    assert_eq!(rt; part, [0xFF, 0xA7]);
+    assert_eq!(rt; bytes.byte(1), 0xFF);
+    for word in [b"".as_slice(), b"0", b"00fFA", b"0g", b"0x00", b"00fFA700"] {
+        assert!(rt; HexBytes::of(word, 3).is_none());
     }
-    for line in [b" #".as_slice(), b"hello", b"#\t", b"\t"] {
-        assert!(rt; !is_idle(line));
-    }
-    assert!(rt; is_idle(&[b' '; 16_384]));
-    assert!(rt; !is_idle(&[b' '; 16_385]));
+    Ok(())
 }

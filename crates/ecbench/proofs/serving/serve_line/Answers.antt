@@ -42,9 +42,7 @@ returns-in-Ok-PortsOut-clause-serves g c =
     let bytes = c.in-Ok-PortsOut.bytes in
     let read = line.PortsOut port bytes in
     let is : line_of c.args.line.now ≡ Ok read = sym c.parse.ensures.line ∙ c.in-Ok-PortsOut.is ∙ ap (λ (found : Line). Ok found) c.in-Ok-PortsOut.field-0-is in
-    let serves : ServesRaw c.serve_out.result c.args.number (Writes port bytes) (wire_view LpcKind c.args.bench.now) (wire_view LpcKind c.serve_out.new.bench) (g.K.Sink.written c.args.sink.now) (g.K.Sink.written c.serve_out.new.sink) =
-    subst (λ (slice : List ℕ). ServesRaw c.serve_out.result c.args.number (Writes port slice) (wire_view LpcKind c.args.bench.now) (wire_view LpcKind c.serve_out.new.bench) (g.K.Sink.written c.args.sink.now) (g.K.Sink.written c.serve_out.new.sink)) c.as_slice.ensures.bytes c.serve_out.ensures.serves in
-    raw-serves c.serve_out.result c.args.number c.args.line.now (Writes port bytes) _ _ _ _ (deed-read c.args.line.now read is) serves
+    raw-serves c.serve_out.result c.args.number c.args.line.now (Writes port bytes) _ _ _ _ (deed-read c.args.line.now read is) c.serve_out.ensures.serves
 
 pub returns-in-Ok-PortsIn-clause-serves : goal.returns-in-Ok-PortsIn-clause-serves
 returns-in-Ok-PortsIn-clause-serves g c =

@@ -4,4 +4,4 @@ use Rattle.ectool_lines.proofs.sending.carry_out.Given as goal
 
 abbrev pub invariant-loop-k : goal.invariant-loop-k
 invariant-loop-k g l =
-    Went l.fn.tool l.k (g.W.Wire.view l.fn.w) (g.W.Wire.view l.w) l.text × (length l.text ≤ 500 * l.k) × (200000 ≤ (g.W.Wire.view l.w).spare + 531 * l.k)
+    Went l.fn.tool l.k (g.W.Wire.view l.fn.w) (g.W.Wire.view l.w) l.buffers.text × (length l.buffers.text ≤ 500 * l.k) × (200000 ≤ (g.W.Wire.view l.w).spare + 531 * l.k)
