@@ -1,10 +1,11 @@
 // A source over a reader and a sink over a writer. To contracts over sources and sinks they tell no content, since nothing vouches
 // for what is behind them.
-ghost use Rattle.std.specs.Prelude.{◌<◌, ◌≤◌, length, None, IfOk};
+ghost use Rattle.std.specs.Prelude.{◌≡◌, ◌<◌, ◌≤◌, length, None, IfOk};
+ghost use Rattle.std.specs.Result.{result_unwrap_or};
 ghost use Rattle.std.specs.Io.KnownBytes.{ReadConsumes, WriteAppends};
 ghost use Rattle.flash_dev.specs.Counts.{HasFaults};
 ghost use Rattle.flash_dev.specs.Told.{Changes};
-ghost use Rattle.bench_io.specs.Streams.{Gives, Puts};
+ghost use Rattle.bench_io.specs.Streams.{Gives, Puts, asked_for};
 
 use crate::{Sink, Source};
 use flash_dev::Failed;
@@ -15,11 +16,21 @@ use std::io::{Read, Write};
 pub struct StdSource<R: Read> {
     reader: R,
     faults: u64,
+    asked: u64,
+    last: usize,
 }
 
 impl<R: Read> StdSource<R> {
-    pub fn new(reader: R) -> StdSource<R> {
-        StdSource { reader, faults: 0 }
+    /// Over this reader. Nothing is counted yet.
+    pub fn new(reader: R) -> StdSource<R>
+        ensures { result ≡ record { reader = reader; faults = 0; asked = 0; last = 0 } }
+    {
+        StdSource {
+            reader,
+            faults: 0,
+            asked: 0,
+            last: 0,
+        }
     }
 }
 
@@ -28,16 +39,24 @@ impl<R: Read> Source for StdSource<R> {
 
     ghost faults = { λ source. source.faults };
 
+    ghost asks = { λ source. record { calls = source.asked; last = source.last } };
+
     fn next(&mut self, buf: &mut [u8]) -> Result<usize, Failed>
         requires { 0 < length buf.old }
         ensures bound { IfOk result (λ count. count ≤ length buf.new) }
         ensures bytes { Changes (Gives result buf.new) None None }
         ensures cause { HasFaults self.old.faults self.new.faults result }
+        ensures asks { record { calls = self.new.asked; last = self.new.last } ≡ asked_for (result_unwrap_or result 0) (record { calls = self.old.asked; last = self.old.last }) }
         // What the reader says of its bytes is handed on.
         ensures passes { ReadConsumes (R.remaining self.old.reader) (R.remaining self.new.reader) result buf.new }
     {
+        self.asked = self.asked.saturating_add(1);
+        self.last = 0;
         match self.reader.read(buf) {
-            Ok(count) => Ok(count),
+            Ok(count) => {
+                self.last = count;
+                Ok(count)
+            }
             Err(_) => {
                 self.faults = self.faults.saturating_add(1);
                 Err(Failed)
@@ -54,7 +73,10 @@ pub struct StdSink<W: Write> {
 }
 
 impl<W: Write> StdSink<W> {
-    pub fn new(writer: W) -> StdSink<W> {
+    /// Over this writer. Nothing is counted yet.
+    pub fn new(writer: W) -> StdSink<W>
+        ensures { result ≡ record { writer = writer; faults = 0 } }
+    {
         StdSink { writer, faults: 0 }
     }
 }

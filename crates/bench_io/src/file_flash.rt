@@ -1,31 +1,51 @@
-// A flash over a file. It tells no bytes, since nothing vouches for what the file holds.
-ghost use Rattle.std.specs.Prelude.{◌≤◌, length, None};
-ghost use Rattle.flash_dev.specs.Told.{untold_is_whole};
+// A flash over a file. Its bytes are read once, and held; what is written goes to the file first.
+ghost use Rattle.std.specs.Prelude.{◌≡◌, ◌≤◌, ◌<◌, ◌+◌, ◌*◌, ◌%◌, ◌^◌, length, replicate, slice_range, IfOk, OnOk};
+ghost use Rattle.flash_dev.specs.Flash.{and_bytes, overwritten, programmed, erased, block_size, Torn};
+ghost use Rattle.flash_dev.specs.Counts.{HasFaults, raised_by};
+ghost use Rattle.flash_dev.specs.Device.{IsRead, IsChange};
+ghost use Rattle.flash_dev.specs.Told.{told_is_whole};
+ghost use Rattle.bench_io.specs.Files.{IsSized, file_device};
 
-use flash_dev::{DevErr, Failed, FlashDev};
+use flash_dev::{DevErr, Failed, FlashDev, Geometry, and_into};
+use std::alloc::Global;
 use std::io::{self, Read, Seek, SeekFrom, Write};
+use std::marker::Model;
 
-// What a block holds once it is erased.
-static ERASED: [u8; 4096] = [0xFF; 4096];
-
-/// A file as a flash: a program reads the range, takes the bitwise and, and writes it back. Each call whose reads, writes
-/// or seeks answer an error is a fault, and so is one whose write takes nothing.
+/// A file as a flash. What a read gives is held in memory; a program and an erase write their range to the file, and then
+/// hold it. A call whose write or seek answers an error is a fault: its range then holds what the file gives, as far as
+/// that can be read.
 #[derive(Drop)]
 pub struct FileFlash<T: Read + Write + Seek> {
     file: T,
-    size: u32,
+    bytes: Vec<u8>,
     faults: u64,
     wear: u64,
     fetched: u64,
 }
 
+impl<T: Read + Write + Seek> Model for FileFlash<T> {
+    ghost use Rattle.std.specs.Prelude.{◌<◌, ◌^◌, length};
+    ghost use Rattle.bench_io.specs.Files.{FileState};
+
+    ghost Value = { FileState };
+
+    ghost view = { λ flash. record { bytes = flash.bytes.items; faults = flash.faults; wear = flash.wear; fetched = flash.fetched } };
+
+    ghost invariant = { λ flash. length flash.bytes.items < 2 ^ 32 };
+}
+
 impl<T: Read + Write + Seek + Drop> FileFlash<T> {
-    /// A flash as large as the file is now, or of 4,294,967,295 bytes where the file is longer. An error is the file's.
-    pub fn new(mut file: T) -> io::Result<FileFlash<T>> {
-        let length = file.seek(SeekFrom::End(0))?;
+    /// A flash of the file's bytes, or of none where a flash has no such size. An error is the file's, or memory's.
+    pub fn new(alloc: Global, mut file: T) -> io::Result<FileFlash<T>>
+        ensures counts { IfOk result (λ flash. flash ≡ record { bytes = flash.bytes; faults = 0; wear = 0; fetched = 0 }) }
+        ensures size { IfOk result (λ flash. IsSized (length flash.bytes)) }
+    {
+        let size = flash_size(&mut file)?;
+        let mut bytes = vec![in alloc; 0; size as usize]?;
+        read_from(&mut file, 0, &mut bytes)?;
         Ok(FileFlash {
             file,
-            size: u32::try_from(length).unwrap_or(u32::MAX),
+            bytes,
             faults: 0,
             wear: 0,
             fetched: 0,
@@ -33,75 +53,94 @@ impl<T: Read + Write + Seek + Drop> FileFlash<T> {
     }
 }
 
+impl<T: Read + Write + Seek> FileFlash<T> {
+    // Writes a range, and counts that.
+    fn store(&mut self, at: usize, bytes: &[u8]) -> Result<(), DevErr>
+        requires { at + length bytes.now ≤ length self.old.bytes }
+        ensures change { IsChange at (length bytes.now) (overwritten at bytes.now) (file_device self.old) (file_device self.new) result }
+    {
+        self.wear = self.wear.saturating_add(1);
+        match write_through(&mut self.file, &mut self.bytes, at, bytes) {
+            Ok(()) => Ok(()),
+            Err(_) => {
+                self.faults = self.faults.saturating_add(1);
+                Err(DevErr::Failed)
+            }
+        }
+    }
+}
+
 impl<T: Read + Write + Seek> FlashDev for FileFlash<T> {
-    ghost seen = { λ flash. record {
-      held = None;
-      extent = flash.size;
-      faults = flash.faults;
-      cuts = 0;
-      wear = flash.wear;
-      fetched = flash.fetched;
-    } };
+    ghost seen = { file_device };
 
     fn size(&self) -> u32 {
-        self.size
+        self.bytes.len() as u32
     }
 
     fn read(&mut self, at: u32, out: &mut [u8]) -> Result<(), Failed> {
         self.fetched = self.fetched.saturating_add(out.len() as u64);
-        match read_from(&mut self.file, at, out) {
-            Ok(()) => Ok(()),
-            Err(_) => {
-                self.faults = self.faults.saturating_add(1);
-                Err(Failed)
-            }
-        }
+        let start = at as usize;
+        out.copy_from_slice(&self.bytes[start..start + out.len()]);
+        Ok(())
     }
 
     fn program(&mut self, at: u32, bytes: &[u8]) -> Result<(), DevErr> {
-        self.wear = self.wear.saturating_add(1);
-        match and_into(&mut self.file, at, bytes) {
-            Ok(()) => Ok(()),
-            Err(_) => {
-                self.faults = self.faults.saturating_add(1);
-                Err(DevErr::Failed)
-            }
-        }
+        let mut room = [0; 64];
+        let part = &mut room[..bytes.len()];
+        let start = at as usize;
+        part.copy_from_slice(&self.bytes[start..start + bytes.len()]);
+        and_into(part, bytes);
+        self.store(start, part)
     }
 
     fn erase(&mut self, block: u32) -> Result<(), DevErr> {
-        self.wear = self.wear.saturating_add(1);
-        match write_to(&mut self.file, block * 4096, &ERASED) {
-            Ok(()) => Ok(()),
-            Err(_) => {
-                self.faults = self.faults.saturating_add(1);
-                Err(DevErr::Failed)
-            }
-        }
+        self.store(block as usize * 4096, &[0xFF; 4096])
     }
 
-    ghost told_whole = { λ flash bytes same. untold_is_whole flash.size bytes same };
+    ghost told_whole = { λ flash bytes same. told_is_whole flash.bytes bytes same };
 }
 
-fn read_from<T: Read + Seek>(file: &mut T, at: u32, out: &mut [u8]) -> io::Result<()> {
-    file.seek(SeekFrom::Start(u64::from(at)))?;
+// How many bytes a flash over this file has.
+fn flash_size<T: Seek>(file: &mut T) -> io::Result<u32>
+    ensures { IfOk result (λ size. IsSized size) }
+{
+    let length = file.seek(SeekFrom::End(0))?;
+    match u32::try_from(length) {
+        Ok(size) if Geometry::new(size).is_some() => Ok(size),
+        _ => Ok(0),
+    }
+}
+
+// Writes a range to the file, and then holds it. Where the file fails, what it has there is held, as far as it can be read.
+fn write_through<T: Read + Write + Seek>(
+    file: &mut T,
+    held: &mut [u8],
+    at: usize,
+    bytes: &[u8],
+) -> io::Result<()>
+    requires { at + length bytes.now ≤ length held.old }
+    ensures held { OnOk result (held.new ≡ overwritten at bytes.now held.old) }
+    ensures outside { Torn at (length bytes.now) held.old held.new }
+{
+    let part = &mut held[at..at + bytes.len()];
+    match write_to(file, at, bytes) {
+        Ok(()) => {
+            part.copy_from_slice(bytes);
+            Ok(())
+        }
+        Err(error) => {
+            let _ = read_from(file, at, part);
+            Err(error)
+        }
+    }
+}
+
+fn read_from<T: Read + Seek>(file: &mut T, at: usize, out: &mut [u8]) -> io::Result<()> {
+    file.seek(SeekFrom::Start(at as u64))?;
     file.read_exact(out)
 }
 
-fn write_to<T: Write + Seek>(file: &mut T, at: u32, bytes: &[u8]) -> io::Result<()> {
-    file.seek(SeekFrom::Start(u64::from(at)))?;
+fn write_to<T: Write + Seek>(file: &mut T, at: usize, bytes: &[u8]) -> io::Result<()> {
+    file.seek(SeekFrom::Start(at as u64))?;
     file.write_all(bytes)
-}
-
-// Makes each byte of a range of at most 64 bytes the bitwise and of the old one and the new one.
-fn and_into<T: Read + Write + Seek>(file: &mut T, at: u32, bytes: &[u8]) -> io::Result<()>
-    requires { length bytes.now ≤ 64 }
-{
-    let mut held = [0; 64];
-    let range = &mut held[..bytes.len()];
-    read_from(file, at, range)?;
-    for (old, new) in range.iter_mut().zip(bytes) {
-        *old &= *new;
-    }
-    write_to(file, at, range)
 }

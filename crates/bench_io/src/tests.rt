@@ -1,8 +1,9 @@
 // What no clause says: that memory suffices, and what passes through the adapters.
 use crate::{FileFlash, MemSink, MemSource, Sink, Source, StdSink, StdSource, put_all};
-use flash_dev::{Failed, FlashDev};
+use flash_dev::{DevErr, Failed, FlashDev};
+use std::alloc::Global;
 use std::fs::{self, File};
-use std::io::{self, Error, ErrorKind, Read};
+use std::io::{self, Error, ErrorKind, Read, Seek, SeekFrom, Write};
 use std::test::Fail;
 
 /// A reader that always fails.
@@ -12,6 +13,58 @@ struct Broken;
 impl Read for Broken {
     fn read(&mut self, buf: &mut [u8]) -> io::Result<usize> {
         Err(Error::from(ErrorKind::BrokenPipe))
+    }
+}
+
+/// A file whose first write fails in its middle.
+#[derive(Drop)]
+struct Weak {
+    file: File,
+    failed: bool,
+}
+
+impl Read for Weak {
+    fn read(&mut self, buf: &mut [u8]) -> io::Result<usize> {
+        self.file.read(buf)
+    }
+}
+
+impl Write for Weak {
+    fn write(&mut self, buf: &[u8]) -> io::Result<usize> {
+        if self.failed {
+            return self.file.write(buf);
+        }
+        self.failed = true;
+        let (front, _) = buf.split_at(buf.len() / 2);
+        self.file.write_all(front)?;
+        Err(Error::from(ErrorKind::BrokenPipe))
+    }
+
+    fn flush(&mut self) -> io::Result<()> {
+        self.file.flush()
+    }
+}
+
+impl Seek for Weak {
+    fn seek(&mut self, to: SeekFrom) -> io::Result<u64> {
+        self.file.seek(to)
+    }
+}
+
+/// A file of 65,536 bytes of 0x5A, to be read and written.
+fn old_file(rt: &HostRuntime, name: &str) -> io::Result<File> {
+    fs::write(rt, name, vec![in rt.alloc(); 0x5A; 65536]?)?;
+    let mut options = File::options();
+    options.read(true).write(true);
+    options.open(rt, name)
+}
+
+/// What reads of a whole flash give.
+fn held<T: Read + Write + Seek>(alloc: Global, flash: &mut FileFlash<T>) -> io::Result<Vec<u8>> {
+    let mut bytes = vec![in alloc; 0; flash.size() as usize]?;
+    match flash.read(0, &mut bytes) {
+        Ok(()) => Ok(bytes),
+        Err(Failed) => Err(Error::from(ErrorKind::Other)),
     }
 }
 
@@ -61,23 +114,54 @@ fn a_write_of_nothing_is_a_fault(rt: HostRuntime) {
 }
 
 #[test]
-fn a_file_is_a_flash(rt: HostRuntime) -> Result<(), Fail> {
-    let name = "a_file_is_a_flash.bin";
-    let mut options = File::options();
-    options.read(true).write(true).create(true).truncate(true);
-    let file = options.open(&rt, name)?;
-    file.set_len(8192)?;
-    let mut flash = FileFlash::new(file)?;
-    assert_eq!(rt; flash.size(), 8192);
+fn what_is_written_reaches_the_file(rt: HostRuntime) -> Result<(), Fail> {
+    let name = "what_is_written_reaches_the_file.bin";
+    let mut flash = FileFlash::new(rt.alloc(), old_file(&rt, name)?)?;
+    assert_eq!(rt; flash.size(), 65536);
     assert_eq!(rt; flash.erase(1), Ok(()));
-    assert_eq!(rt; flash.program(4096, &[0xF0; 4]), Ok(()));
-    assert_eq!(rt; flash.program(4096, &[0x3C; 4]), Ok(()));
-    let mut held = [1; 12];
-    assert_eq!(rt; flash.read(4092, &mut held), Ok(()));
-    assert_eq!(rt;
-        held,
-        [0, 0, 0, 0, 0x30, 0x30, 0x30, 0x30, 0xFF, 0xFF, 0xFF, 0xFF]
-    );
+    assert_eq!(rt; flash.program(8128, &[0x3C; 64]), Ok(()));
+    assert_eq!(rt; flash.program(8192, &[0xF0; 64]), Ok(()));
+    let mut want = vec![in rt.alloc(); 0x5A; 65536]?;
+    want[4096..8128].fill(0xFF);
+    want[8128..8192].fill(0x3C);
+    want[8192..8256].fill(0x50);
+    assert_eq!(rt; fs::read(&rt, name)?, want);
+    assert_eq!(rt; held(rt.alloc(), &mut flash)?, want);
+    let mut again = FileFlash::new(rt.alloc(), File::open(&rt, name)?)?;
+    assert_eq!(rt; held(rt.alloc(), &mut again)?, want);
+    fs::remove_file(&rt, name)?;
+    Ok(())
+}
+
+#[test]
+fn a_write_fails(rt: HostRuntime) -> Result<(), Fail> {
+    let name = "a_write_fails.bin";
+    let file = Weak {
+        file: old_file(&rt, name)?,
+        failed: false,
+    };
+    let mut flash = FileFlash::new(rt.alloc(), file)?;
+    assert_eq!(rt; flash.size(), 65536);
+    assert_eq!(rt; flash.program(4096, &[0; 64]), Err(DevErr::Failed));
+    let mut want = vec![in rt.alloc(); 0x5A; 65536]?;
+    want[4096..4128].fill(0);
+    assert_eq!(rt; fs::read(&rt, name)?, want);
+    assert_eq!(rt; held(rt.alloc(), &mut flash)?, want);
+    assert_eq!(rt; flash.size(), 65536);
+    assert_eq!(rt; flash.program(4096, &[0; 64]), Ok(()));
+    want[4096..4160].fill(0);
+    assert_eq!(rt; fs::read(&rt, name)?, want);
+    assert_eq!(rt; held(rt.alloc(), &mut flash)?, want);
+    fs::remove_file(&rt, name)?;
+    Ok(())
+}
+
+#[test]
+fn a_file_of_another_size(rt: HostRuntime) -> Result<(), Fail> {
+    let name = "a_file_of_another_size.bin";
+    fs::write(&rt, name, b"hello")?;
+    let flash = FileFlash::new(rt.alloc(), File::open(&rt, name)?)?;
+    assert_eq!(rt; flash.size(), 0);
     fs::remove_file(&rt, name)?;
     Ok(())
 }

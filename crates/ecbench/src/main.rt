@@ -35,6 +35,9 @@ fn main(rt: HostRuntime) -> ExitCode {
     let _held = hold_streams(&rt);
     let flash = match open_flash(&rt, path) {
         Ok(flash) => flash,
+        Err(error) if error.kind() == io::ErrorKind::OutOfMemory => {
+            return told(&rt, Exit::NoMemory);
+        }
         Err(error) => {
             let _ = eprintln!(rt; "ecbench: {path}: {error}");
             return ExitCode::from(NOT_OPENED);
@@ -69,7 +72,7 @@ fn hold_streams(rt: &HostRuntime) -> io::Result<(File, File, File)> {
 fn open_flash(rt: &HostRuntime, path: &str) -> io::Result<FileFlash<File>> {
     let mut options = File::options();
     options.read(true).write(true);
-    FileFlash::new(options.open(rt, path)?)
+    FileFlash::new(rt.alloc(), options.open(rt, path)?)
 }
 
 // The status of an exit, which is told on standard error where it is not 0.

@@ -155,8 +155,8 @@ fn program_bytes(held: &mut [u8], at: usize, bytes: &[u8])
     and_into(&mut held[at..end], bytes);
 }
 
-// Makes each byte hold just the bits that it and the new byte both have.
-fn and_into(part: &mut [u8], bytes: &[u8])
+/// Makes each byte hold just the bits that it and the new byte both have.
+pub fn and_into(part: &mut [u8], bytes: &[u8])
     requires { length bytes.now ≡ length part.old }
     ensures { part.new ≡ and_bytes part.old bytes.now }
 {

@@ -255,6 +255,6 @@ module _ (raws : List (List ℕ)) (used : List ℕ) (splits : Splits raws used) 
         ∙ append-nil (map without_return raws)
 
     -- up to a failure no line was ended but those
-    pub failed-lines : IsFailed old all → ended_lines (used ++ all) ≡ map without_return raws
+    pub failed-lines : IsFailed old new all → ended_lines (used ++ all) ≡ map without_return raws
     failed-lines failed =
         splits-lines (λ last. []) raws used all splits ∙ ap (λ (rest : List (List ℕ)). map without_return raws ++ rest) (last-alone (λ last. []) all failed.feedless) ∙ append-nil (map without_return raws)

@@ -1,6 +1,7 @@
 // The bytes that came from a source and were not read yet.
 ghost use Rattle.std.specs.Prelude.{◌≡◌, ◌<◌, [], length, OnOk, OnErr};
 ghost use Rattle.flash_dev.specs.Counts.{HasFaults};
+ghost use Rattle.bench_io.specs.Streams.{asked_for};
 ghost use Rattle.line_reader.specs.Taking.{Takes};
 ghost use Rattle.line_reader.specs.Bytes.{IsWithin, NoneLeft, FindsByte};
 
@@ -59,7 +60,7 @@ impl Input {
 
     /// Takes the next byte. The source is asked only where no byte is ahead.
     pub fn next_byte<S: Source>(&mut self, source: &mut S) -> Result<Came, Failed>
-        ensures finds { FindsByte result self.old self.new (S.left source.old) (S.left source.new) }
+        ensures finds { FindsByte result self.old self.new (S.left source.old) (S.left source.new) (S.asks source.old) (S.asks source.new) }
         ensures within { IsWithin self.new.ahead self.new.given }
         ensures patient { 0 < length self.old.ahead → source.new ≡ source.old }
         ensures cause { HasFaults (S.faults source.old) (S.faults source.new) result }
@@ -86,6 +87,7 @@ impl Input {
         ensures taken { Takes self.new.ahead (S.left source.old) (S.left source.new) }
         ensures end { OnOk result (self.new.ahead ≡ [] → NoneLeft (S.left source.new)) }
         ensures failed { OnErr result (self.new.ahead ≡ []) }
+        ensures asks { S.asks source.new ≡ asked_for (length self.new.ahead) (S.asks source.old) }
         ensures cause { HasFaults (S.faults source.old) (S.faults source.new) result }
     {
         let room = (MOST_BYTES + 1 - self.given).min(4096) as usize;

@@ -3,7 +3,7 @@ ghost use Rattle.std.specs.Prelude.{◌≡◌, [], length, nat_le, if◌then◌e
 ghost use Rattle.flash_dev.specs.Counts.{HasFaults};
 ghost use Rattle.line_reader.specs.Lines.{HasNoFeed, longest_line, without_return};
 ghost use Rattle.line_reader.specs.Bytes.{IsWithin};
-ghost use Rattle.line_reader.specs.Finding.{Finds};
+ghost use Rattle.line_reader.specs.Finding.{Reads};
 
 use crate::input::{Came, Input};
 use arrayvec::ArrayVec;
@@ -63,11 +63,13 @@ impl LineReader {
         self.line.as_slice()
     }
 
-    /// Reads the next line. After any answer but `Line` the reader is done with.
+    /// Reads the next line. After any answer but `Line` the reader is done with; where the source failed, what had come of
+    /// the line stands there as the line.
     pub fn next<S: Source>(&mut self, source: &mut S) -> Result<Next, Failed>
-        ensures finds { Finds result self.old self.new (S.left source.old) (S.left source.new) }
+        // A line that is there is answered before the source is asked again.
+        ensures reads { Reads result self.old self.new (S.left source.old) (S.left source.new) (S.asks source.old) (S.asks source.new) }
         ensures within { IsWithin self.new.ahead self.new.given }
-        // A line that is there is done before the source is asked again.
+        // Where a line was ahead, the source is as it was.
         ensures patient { ¬ HasNoFeed self.old.ahead → source.new ≡ source.old }
         ensures cause { HasFaults (S.faults source.old) (S.faults source.new) result }
     {

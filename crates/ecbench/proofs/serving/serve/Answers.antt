@@ -20,16 +20,16 @@ loop-number-init g c =
     )
 
 pub returns-in-Err-clause-serves : goal.returns-in-Err-clause-serves
-returns-in-Err-clause-serves g c = serves-failed c.loop-number.number _ _ _ _ _ _ _ _ _ c.in-Err.field-0 c.loop-number.invariant.0 c.in-Err.ensures.finds
+returns-in-Err-clause-serves g c = serves-failed c.loop-number.number _ _ _ _ _ _ _ _ _ c.in-Err.field-0 c.loop-number.invariant.0 c.in-Err.ensures.reads.finds
 
 pub returns-in-Some-clause-serves : goal.returns-in-Some-clause-serves
 returns-in-Some-clause-serves g c =
-    serves-exit c.in-Ok.next c.in-Some.exit c.loop-number.number _ _ _ _ _ _ _ _ _ (sym c.exit_at.ensures ∙ c.in-Some.is) c.loop-number.invariant.0 c.next.ensures.within.read c.in-Ok.ensures.finds
+    serves-exit c.in-Ok.next c.in-Some.exit c.loop-number.number _ _ _ _ _ _ _ _ _ (sym c.exit_at.ensures ∙ c.in-Some.is) c.loop-number.invariant.0 c.next.ensures.within.read c.in-Ok.ensures.reads.finds
 
 pub returns-in-Err-serve_line-clause-serves : goal.returns-in-Err-serve_line-clause-serves
 returns-in-Err-serve_line-clause-serves g c =
     let none : exit_at c.in-Ok.next c.loop-number.number ≡ None = sym c.exit_at.ensures ∙ c.in_default.is in
-    let line = at-any c.in-Ok.next c.loop-number.number _ _ _ _ _ _ _ _ _ none c.loop-number.invariant.0 c.next.ensures.within.read c.in-Ok.ensures.finds in
+    let line = at-any c.in-Ok.next c.loop-number.number _ _ _ _ _ _ _ _ _ none c.loop-number.invariant.0 c.next.ensures.within.read c.in-Ok.ensures.reads.finds in
     let served : ServesLine (Err c.in-Err-serve_line.exit) c.loop-number.number c.next.new.self.line (wire_view LpcKind c.loop-number.bench) (wire_view LpcKind c.serve_line.new.bench) (g.K.Sink.written c.loop-number.sink) (g.K.Sink.written c.serve_line.new.sink) =
     subst (λ (bytes : List ℕ). ServesLine (Err c.in-Err-serve_line.exit) c.loop-number.number bytes (wire_view LpcKind c.loop-number.bench) (wire_view LpcKind c.serve_line.new.bench) (g.K.Sink.written c.loop-number.sink) (g.K.Sink.written c.serve_line.new.sink)) c.line.ensures c.in-Err-serve_line.ensures.serves in
     serves-stopped c.in-Err-serve_line.exit c.loop-number.number _ _ _ _ _ _ _ _ _ _ _ c.loop-number.invariant.0 refl refl line served
@@ -38,7 +38,7 @@ pub returns-then-is_last-clause-serves : goal.returns-then-is_last-clause-serves
 returns-then-is_last-clause-serves g c =
     let last : c.in-Ok.next ≡ Last = c.is_last.ensures.0 c.if-is_last.true in
     let finds : Finds (Ok Last) c.loop-number.reader c.next.new.self (g.S.Source.left c.loop-number.source) (g.S.Source.left c.next.new.source) =
-    subst (λ (next : Next). Finds (Ok next) c.loop-number.reader c.next.new.self (g.S.Source.left c.loop-number.source) (g.S.Source.left c.next.new.source)) last c.in-Ok.ensures.finds in
+    subst (λ (next : Next). Finds (Ok next) c.loop-number.reader c.next.new.self (g.S.Source.left c.loop-number.source) (g.S.Source.left c.next.new.source)) last c.in-Ok.ensures.reads.finds in
     let served : ServesLine (Ok tt) c.loop-number.number c.next.new.self.line (wire_view LpcKind c.loop-number.bench) (wire_view LpcKind c.serve_line.new.bench) (g.K.Sink.written c.loop-number.sink) (g.K.Sink.written c.serve_line.new.sink) =
     subst (λ (bytes : List ℕ). ServesLine (Ok tt) c.loop-number.number bytes (wire_view LpcKind c.loop-number.bench) (wire_view LpcKind c.serve_line.new.bench) (g.K.Sink.written c.loop-number.sink) (g.K.Sink.written c.serve_line.new.sink)) c.line.ensures c.in_default-serve_line.ensures.serves in
     serves-last c.loop-number.number _ _ _ _ _ _ _ _ _ _ _ c.loop-number.invariant.0 refl refl c.next.ensures.within.read finds served
@@ -48,7 +48,7 @@ loop-number-preserved g c =
     let none : exit_at c.in-Ok.next c.loop-number.number ≡ None = sym c.exit_at.ensures ∙ c.in_default.is in
     let line : c.in-Ok.next ≡ Line = ended-line c.in-Ok.next c.loop-number.number none (λ same. let yes = c.is_last.ensures.1 same in let no = c.if-is_last.false in cc) in
     let finds : Finds (Ok Line) c.loop-number.reader c.next.new.self (g.S.Source.left c.loop-number.source) (g.S.Source.left c.next.new.source) =
-    subst (λ (next : Next). Finds (Ok next) c.loop-number.reader c.next.new.self (g.S.Source.left c.loop-number.source) (g.S.Source.left c.next.new.source)) line c.in-Ok.ensures.finds in
+    subst (λ (next : Next). Finds (Ok next) c.loop-number.reader c.next.new.self (g.S.Source.left c.loop-number.source) (g.S.Source.left c.next.new.source)) line c.in-Ok.ensures.reads.finds in
     let served : ServesLine (Ok tt) c.loop-number.number c.next.new.self.line (wire_view LpcKind c.loop-number.bench) (wire_view LpcKind c.serve_line.new.bench) (g.K.Sink.written c.loop-number.sink) (g.K.Sink.written c.serve_line.new.sink) =
     subst (λ (bytes : List ℕ). ServesLine (Ok tt) c.loop-number.number bytes (wire_view LpcKind c.loop-number.bench) (wire_view LpcKind c.serve_line.new.bench) (g.K.Sink.written c.loop-number.sink) (g.K.Sink.written c.serve_line.new.sink)) c.line.ensures c.in_default-serve_line.ensures.serves in (
       served-more c.loop-number.number _ _ _ _ _ _ _ _ _ _ _ c.loop-number.invariant.0 refl refl finds served,
