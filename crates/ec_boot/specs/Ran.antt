@@ -1,5 +1,6 @@
 -- What operations on the flash leave of a controller that is on.
-use Rattle.std.specs.Prelude.{◌≡◌, ◌⊎◌, ℕ, List, length, Some, Result, Ok, Err}
+use Rattle.std.specs.Prelude.{◌≡◌, ◌⊎◌, ℕ, List, length, IsTrue, IsFalse, Some, Result, Ok, Err}
+use Rattle.ec_model.specs.declared.live.HashView.TheVariants.{Idle}
 use Rattle.flash_dev.specs.declared.device.DevErr.{DevErr}
 use Rattle.flash_dev.specs.declared.device.DevErr.TheVariants.{Failed, PowerLost}
 use Rattle.ec_model.specs.declared.live.ProtectView.{ProtectView}
@@ -25,6 +26,15 @@ Ran operations before after (Err error) = IsStopped operations before after
 abbrev pub WearsAtMost : (Core → List Operation) → RunView → ℕ → Type 0
 WearsAtMost operations old worn =
     (core : Core) → told_core old ≡ Some core → RisesAtMost (length (operations core)) old.device.wear worn
+
+-- A FLASH_PROTECT sets locks, with the pin asserted, and drops none; a hash may be dropped, and all else that lasts stays.
+pub record KeepsLive (old new : RunView) : Type 0 where
+  pub pin : new.pin ≡ old.pin
+  pub ro_now : IsTrue old.live.ro_now → IsTrue new.live.ro_now
+  pub all_now : IsTrue old.live.all_now → IsTrue new.live.all_now
+  pub unpinned : IsFalse old.pin → (new.live.ro_now ≡ old.live.ro_now) × (new.live.all_now ≡ old.live.all_now)
+  pub rest : new.live ≡ record old.live { ro_now = new.live.ro_now; all_now = new.live.all_now; hash = new.live.hash }
+  pub hash : (new.live.hash ≡ old.live.hash) ⊎ (new.live.hash ≡ Idle)
 
 -- FLASH_PROTECT: done and shown, or the stored bits could not be read, or an operation did not end
 abbrev pub IsProtected : ℕ → ℕ → Core → Core → Result ProtectView DevErr → Type 0

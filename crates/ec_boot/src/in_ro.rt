@@ -2,7 +2,7 @@
 ghost use Rattle.std.specs.Prelude.{◌≡◌, option_map, IsTrue};
 ghost use Rattle.ec_model.specs.declared.live.HashView.TheVariants.{Idle};
 ghost use Rattle.ec_model.specs.Ranges.{is_flash_size};
-ghost use Rattle.ec_model.specs.Boot.{booted};
+ghost use Rattle.ec_model.specs.Boot.{booted, fresh_live};
 ghost use Rattle.flash_protect.specs.Setting.{IsLookedAt};
 ghost use Rattle.flash_dev.specs.Told.{Changes};
 ghost use Rattle.ec_boot.specs.States.{told_core, Follows, IsLiveValid};
@@ -42,6 +42,7 @@ impl<F: FlashDev> InRo<F> {
         requires { IsTrue (is_flash_size ctl.device.extent) }
         ensures looked { IsLookedAt result.live.pstate_bad ctl.device result.device }
         ensures booted { told_core result ≡ option_map (λ flash. booted flash pin cause result.live.pstate_bad) ctl.device.held }
+        ensures live { result.live ≡ fresh_live cause result.live.ro_now result.live.all_now result.live.pstate_bad }
         ensures pin { result.pin ≡ pin }
     {
         ctl.reset();
@@ -66,6 +67,8 @@ impl<F: FlashDev> InRo<F> {
         ensures guard { Changes KeepsGuard (told_core self) (told_core result) }
         ensures looked { IsLookedAt result.live.pstate_bad self.device result.device }
         ensures booted { told_core result ≡ option_map (λ flash. booted flash self.pin cause result.live.pstate_bad) self.device.held }
+        // Of every flash: RO runs, no erase is pending, and 9 is saved.
+        ensures live { result.live ≡ fresh_live cause result.live.ro_now result.live.all_now result.live.pstate_bad }
         ensures pin { result.pin ≡ self.pin }
     {
         let InRo { ctl, pin, live: _ } = self;

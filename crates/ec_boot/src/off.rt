@@ -1,7 +1,7 @@
 // Off: only the flash is left.
 ghost use Rattle.std.specs.Prelude.{◌≡◌, option_map};
 ghost use Rattle.ec_types.specs.declared.reset.ResetCause.TheVariants.{PowerOn};
-ghost use Rattle.ec_model.specs.Boot.{booted};
+ghost use Rattle.ec_model.specs.Boot.{booted, fresh_live};
 ghost use Rattle.flash_protect.specs.Setting.{IsLookedAt};
 ghost use Rattle.ec_boot.specs.States.{told_core, Follows};
 ghost use Rattle.ec_boot.specs.Guarding.{RaisesGuard};
@@ -45,6 +45,8 @@ impl<F: FlashDev> Off<F> {
         ensures guard { Follows (RaisesGuard pin) self.device.held (told_core result) }
         ensures looked { IsLookedAt result.live.pstate_bad self.device result.device }
         ensures booted { told_core result ≡ option_map (λ flash. booted flash pin PowerOn result.live.pstate_bad) self.device.held }
+        // Of every flash: RO runs, no erase is pending, and 9 is saved.
+        ensures live { result.live ≡ fresh_live PowerOn result.live.ro_now result.live.all_now result.live.pstate_bad }
         ensures pin { result.pin ≡ pin }
     {
         let Off { flash, geometry } = self;

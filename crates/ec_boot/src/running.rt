@@ -8,7 +8,7 @@ ghost use Rattle.ec_model.specs.ProtectRow.{protect_operations};
 ghost use Rattle.flash_dev.specs.Told.{Changes};
 ghost use Rattle.ec_model.specs.Spent.{Costs, RisesAtMost, hurt_of};
 ghost use Rattle.ec_boot.specs.States.{RunView, told_core, IsLiveValid, IsOperated};
-ghost use Rattle.ec_boot.specs.Ran.{IsProtected, WearsAtMost};
+ghost use Rattle.ec_boot.specs.Ran.{IsProtected, KeepsLive, WearsAtMost};
 ghost use Rattle.ec_boot.specs.Ticked.{IsTicked, LeavesTicked, tick_operations};
 ghost use Rattle.ec_boot.specs.Guarding.{KeepsGuard};
 
@@ -73,6 +73,9 @@ pub trait Running {
     fn protect(&mut self, mask: u32, flags: u32) -> Result<ProtectView, DevErr>
         requires { (run self.old).live.erase ≡ None }
         ensures told { Changes (λ before after. IsProtected mask flags before after result) (told_core (run self.old)) (told_core (run self.new)) }
+        // Of every flash: locks are only set, and a mask of 0 changes nothing.
+        ensures live { KeepsLive (run self.old) (run self.new) }
+        ensures idle { mask ≡ 0 → run self.new ≡ record (run self.old) { device = (run self.new).device } }
         ensures pin { (run self.new).pin ≡ (run self.old).pin }
         ensures wear { WearsAtMost (λ core. protect_operations core mask flags) (run self.old) (run self.new).device.wear }
         ensures spent { Costs (hurt_of result) 1024 (run self.old).device (run self.new).device }

@@ -18,21 +18,25 @@ boots_ro_locked flash pin unread = pin && ((stored flash).ro || unread)
 abbrev pub boots_all_locked : List ℕ → Bool → Bool → Bool
 boots_all_locked flash pin unread = boots_ro_locked flash pin unread && not unread && (stored flash).all
 
--- the live state after a boot: RO runs
-abbrev pub booted_live : List ℕ → Bool → ResetCause → Bool → Live
-booted_live flash pin cause unread =
+-- the live state after a boot that set these locks: RO runs, no erase is pending, and nothing is saved
+abbrev pub fresh_live : ResetCause → (ro_now all_now unread : Bool) → Live
+fresh_live cause ro_now all_now unread =
     record {
       copy = Ro;
       flags = cause_flags cause;
       jumped = false;
-      ro_now = boots_ro_locked flash pin unread;
-      all_now = boots_all_locked flash pin unread;
+      ro_now = ro_now;
+      all_now = all_now;
       pstate_bad = unread;
       jump_off = false;
       hash = Idle;
       erase = None;
       saved = 9;
     }
+
+-- the live state after a boot
+abbrev pub booted_live : List ℕ → Bool → ResetCause → Bool → Live
+booted_live flash pin cause unread = fresh_live cause (boots_ro_locked flash pin unread) (boots_all_locked flash pin unread) unread
 
 -- a boot, without the bus
 abbrev pub booted : List ℕ → Bool → ResetCause → Bool → Core

@@ -4,7 +4,7 @@ use Rattle.ec_types.specs.declared.bus.BusKind.{BusKind}
 use Rattle.ec_model.specs.declared.event.Entry.{Entry}
 use Rattle.ec_model.specs.Packet.{RequestView}
 use Rattle.ec_model.specs.HostCalls.{HostView, calls_of, are_calls, view_after}
-use Rattle.ec_model.specs.Send.{AskedBy, Quiet}
+use Rattle.ec_model.specs.Send.{PutBy, Quiet}
 use Rattle.ec_model.specs.Asks.{Setting, packet_of}
 use Rattle.ec_model.specs.Tries.{Tries, Said, Answered}
 
@@ -15,7 +15,7 @@ protocol_request = record { command = 0x000B; version = 0; body = [] }
 -- the entries put no GET_PROTOCOL_INFO on the bus
 abbrev pub AsksNoProtocol : BusKind → List Entry → Type 0
 AsksNoProtocol bus entries =
-    (before asked after : List Entry) → entries ≡ before ++ asked ++ after → AskedBy bus (packet_of protocol_request) (calls_of asked) → ⊥
+    (before asked after : List Entry) → entries ≡ before ++ asked ++ after → PutBy bus (packet_of protocol_request) (calls_of asked) → ⊥
 
 -- a round goes on with GET_PROTOCOL_INFO, and asks it no more
 pub record AsksProtocol (setting : Setting) (view : HostView) (entries : List Entry) : Type 0 where

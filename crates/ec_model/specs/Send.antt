@@ -16,10 +16,10 @@ use Rattle.ec_model.specs.SendI2c.{I2cAsked, I2cPut, I2cUnstarted, I2cUnwritten,
 use Rattle.ec_model.specs.SendSpi.{SpiAsked, SpiSend}
 
 -- the packet was put on the bus, by the bus
-abbrev pub AskedBy : BusKind → List ℕ → List HostCall → Type 0
-AskedBy Lpc packet calls = LpcAsked packet calls
-AskedBy I2c packet calls = I2cPut packet calls
-AskedBy Spi packet calls = SpiAsked packet calls
+abbrev pub PutBy : BusKind → List ℕ → List HostCall → Type 0
+PutBy Lpc packet calls = LpcAsked packet calls
+PutBy I2c packet calls = I2cPut packet calls
+PutBy Spi packet calls = SpiAsked packet calls
 
 -- one send, by the bus
 abbrev pub SendsBy : BusKind → List ℕ → List HostCall → Heard → Type 0

@@ -92,6 +92,7 @@ impl Protect {
         ensures done { (flash : List ℕ) → stored flash ≡ bits → core_with self.new pin flash ≡ locks_set mask flags (core_with self.old pin flash) }
         ensures shown { (flash : List ℕ) → stored flash ≡ bits → result ≡ protect_view (core_with self.new pin flash) }
         ensures grows { GrowsTo pin self.old self.new }
+        ensures idle { mask ≡ 0 → self.new ≡ self.old }
         ensures device { ctl.new.device ≡ ctl.old.device }
         ensures locks { Locks self.new ctl.new }
     {
@@ -116,6 +117,8 @@ impl Protect {
         requires inside { IsPlaceIn (ctl.old.device.extent / 2 - 4096) found.place }
         ensures told { Changes (λ before after. Sets mask flags pin self.old before self.new after result.0 result.1) ctl.old.device.held ctl.new.device.held }
         ensures grows { GrowsTo pin self.old self.new }
+        // A mask of 0 changes nothing.
+        ensures idle { mask ≡ 0 → (self.new ≡ self.old) × IsNone result.0 }
         ensures locks { Locks self.new ctl.new }
         ensures range { IfSome result.0 (IsRangeIn (ctl.old.device.extent / 2 - 4096)) }
         ensures none { IsNone result.0 → ctl.new.device.wear ≡ ctl.old.device.wear }
@@ -149,6 +152,8 @@ impl Protect {
         requires { Locks self.old ctl.old }
         ensures told { Changes (λ before after. Sets mask flags pin self.old before self.new after result.0 result.1) ctl.old.device.held ctl.new.device.held }
         ensures grows { GrowsTo pin self.old self.new }
+        // A mask of 0 changes nothing.
+        ensures idle { mask ≡ 0 → (self.new ≡ self.old) × IsNone result.0 }
         ensures locks { Locks self.new ctl.new }
         // A record that has its place is added whole: the bits are as they were, or as is wanted, also where an operation does not end.
         ensures whole { Changes (AddsRecord mask flags) ctl.old.device.held ctl.new.device.held }
