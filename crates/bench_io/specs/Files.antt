@@ -17,6 +17,7 @@ file_device file = record {
   extent = length file.bytes;
   faults = file.faults;
   cuts = 0;
+  refusals = file.faults;
   wear = file.wear;
   fetched = file.fetched;
 }

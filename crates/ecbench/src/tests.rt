@@ -28,6 +28,7 @@ impl FlashDev for Dying {
       extent = 65536;
       faults = 0;
       cuts = flash.cuts;
+      refusals = flash.cuts;
       wear = 0;
       fetched = flash.fetched;
     } };
