@@ -1,5 +1,5 @@
 // A flash over a file. Its bytes are read once, and held; what is written goes to the file first.
-ghost use Rattle.std.specs.Prelude.{◌≡◌, ◌≤◌, ◌<◌, ◌+◌, ◌*◌, ◌%◌, ◌^◌, length, replicate, slice_range, IfOk, OnOk};
+ghost use Rattle.std.specs.Prelude.{◌≡◌, ◌≤◌, ◌<◌, ◌+◌, ◌*◌, ◌%◌, ◌^◌, length, replicate, slice_range, IsOk, IfOk, OnOk};
 ghost use Rattle.flash_dev.specs.Flash.{and_bytes, overwritten, programmed, erased, block_size, Torn};
 ghost use Rattle.flash_dev.specs.Counts.{HasFaults, raised_by};
 ghost use Rattle.flash_dev.specs.Device.{IsRead, IsChange};
@@ -11,9 +11,9 @@ use std::alloc::Global;
 use std::io::{self, Read, Seek, SeekFrom, Write};
 use std::marker::Model;
 
-/// A file as a flash. What a read gives is held in memory; a program and an erase write their range to the file, and then
-/// hold it. A call whose write or seek answers an error is a fault: its range then holds what the file gives, as far as
-/// that can be read.
+/// A file as a flash. What a read gives is held in memory; a program and an erase write their range to the file, and
+/// then hold it. A call whose write or seek answers an error is a fault: its range then holds what the file gives, as
+/// far as that can be read.
 #[derive(Drop)]
 pub struct FileFlash<T: Read + Write + Seek> {
     file: T,
@@ -77,7 +77,12 @@ impl<T: Read + Write + Seek> FlashDev for FileFlash<T> {
         self.bytes.len() as u32
     }
 
-    fn read(&mut self, at: u32, out: &mut [u8]) -> Result<(), Failed> {
+    fn read(&mut self, at: u32, out: &mut [u8]) -> Result<(), Failed>
+        requires { at + length out.old ≤ length self.old.bytes }
+        ensures read { IsRead at out.old out.new (file_device self.old) (file_device self.new) result }
+        // It never fails.
+        ensures whole { IsOk result }
+    {
         self.fetched = self.fetched.saturating_add(out.len() as u64);
         let start = at as usize;
         out.copy_from_slice(&self.bytes[start..start + out.len()]);
@@ -111,7 +116,8 @@ fn flash_size<T: Seek>(file: &mut T) -> io::Result<u32>
     }
 }
 
-// Writes a range to the file, and then holds it. Where the file fails, what it has there is held, as far as it can be read.
+// Writes a range to the file, and then holds it. Where the file fails, what it has there is held, as far as it can be
+// read.
 fn write_through<T: Read + Write + Seek>(
     file: &mut T,
     held: &mut [u8],

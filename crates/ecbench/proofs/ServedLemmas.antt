@@ -1,8 +1,8 @@
 -- A script, line by line: what was done so far, and what each exit says.
-use Rattle.std.proofs.Common.{◌≡◌, refl, sym, ap, ◌∙◌, subst, ℕ, ◌+◌, ◌≤◌, ◌<◌, Bool, true, false, nat_lt, if◌then◌else◌, List, [], ◌++◌, length, length-append, map, take, append_assoc, append-nil, inl, inr, Option, Some, None, Result, Ok, Err, arith}
+use Rattle.std.proofs.Common.{◌≡◌, refl, sym, ap, ◌∙◌, subst, ℕ, ◌+◌, ◌≤◌, ◌<◌, Bool, true, false, nat_lt, if◌then◌else◌, List, [], ◌++◌, length, length-append, map, take, drop, ◌-◌, append_assoc, length-drop, append-nil, inl, inr, Option, Some, None, Result, Ok, Err, arith}
 use Rattle.std.specs.Prelude.{IfSome}
 use Rattle.std.proofs.lemmas.Bool.{le-leb, lt-ltb}
-use Rattle.std.proofs.lemmas.List.{length-map}
+use Rattle.std.proofs.lemmas.List.{length-map, take-append-drop}
 use Rattle.ec_types.specs.declared.why.Why.{Why}
 use Rattle.ec_types.specs.declared.why.Why.TheVariants as why
 use Rattle.flash_dev.specs.declared.device.Failed.{Failed}
@@ -10,12 +10,12 @@ use Rattle.ec_model.specs.declared.event.Entry.{Entry}
 use Rattle.ec_wire.specs.Calls.{WireView}
 use Rattle.line_reader.specs.declared.reader.Next.{Next}
 use Rattle.line_reader.specs.declared.reader.Next.TheVariants.{Line, Last, End, TooLong, Full}
-use Rattle.line_reader.specs.Bytes.{NoneLeft}
-use Rattle.line_reader.specs.Finding.{ReaderView, IsLast, IsEnd, IsOver, IsTooLong, Finds}
+use Rattle.line_reader.specs.Bytes.{NoneLeft, IsWithin}
+use Rattle.line_reader.specs.Finding.{ReaderView, IsLast, IsEnd, IsOver, IsTooLong, Keeps, Finds}
 use Rattle.line_reader.specs.Lines.{most_bytes, longest_line, without_return, lines_of, lines_within, script_lines}
 use Rattle.line_reader.specs.Taking.{Takes}
 use Rattle.line_reader.proofs.Takings.{Takes-then}
-use Rattle.line_reader.proofs.Splitting.{Splits, splits-nothing, line-lines, last-lines, end-lines, long-lines, full-lines, failed-lines}
+use Rattle.line_reader.proofs.Splitting.{Splits, splits-nothing, line-lines, last-lines, end-lines, long-lines, full-lines, failed-lines, front-lines}
 use Rattle.std.specs.Prelude.{codes, nat_eq, is_ok, ◌&&◌, ◌||◌, ◌==◌}
 use Rattle.std.specs.List.{list_any, starts_with}
 use Rattle.script_words.specs.Words.{words_of}
@@ -30,7 +30,7 @@ use Rattle.bench_wire.specs.Adding.{Extends}
 use Rattle.script_lines.specs.declared.line.Line.{Line as ScriptLine}
 use Rattle.script_lines.specs.declared.line.Line.TheVariants.{Nothing}
 use Rattle.script_lines.specs.Lines.{line_of, line_by}
-use Rattle.ecbench.specs.Scripts.{IsScript, Plays, IsLine}
+use Rattle.ecbench.specs.Scripts.{IsScript, ReadsNoFurther, Plays, IsLine}
 use Rattle.ecbench.specs.Serving.{Serves, exit_at}
 use Rattle.ecbench.proofs.Adding.{extends-none}
 
@@ -122,6 +122,7 @@ serves-failed number opened now reader after_reader left rest more before after 
       plays = (
         served.used ++ all,
         taken-more number opened now reader left rest more before after finds.came served finds.taken,
+        omega (arith, length-append served.used all, served.read, finds.says.read),
         record {
           text = served.text;
           new = now.on;
@@ -163,10 +164,32 @@ serves-end number opened now reader after_reader left rest more before after ser
       );
     }
 
+-- how many bytes were taken
+all-read : (number : ℕ) (opened now : WireView) (reader after_reader : ReaderView) (left rest before after : Option (List ℕ)) (all : List ℕ) → (served : Served number opened now reader left rest before after) → Keeps reader after_reader all →
+    length (served.used ++ all) ≡ after_reader.given + length after_reader.ahead
+all-read number opened now reader after_reader left rest before after all served keeps =
+    omega (arith, length-append served.used all, served.read, ap length keeps.bytes, length-append keeps.read after_reader.ahead, keeps.given)
+
+-- it was read no further than to the end of the line behind those that were done, and at most 4,096 bytes wait
+no-further : (number : ℕ) (opened now : WireView) (reader after_reader : ReaderView) (left rest before after : Option (List ℕ)) (all : List ℕ) → (served : Served number opened now reader left rest before after) → length after_reader.ahead ≤ 4096 → Keeps reader after_reader all →
+    ReadsNoFurther (map without_return served.raws) (served.used ++ all)
+no-further number opened now reader after_reader left rest before after all served few keeps =
+    let count = length keeps.read - 1 in
+    let first = take count keeps.read in
+    let last = drop count keeps.read in
+    record {
+      front = served.used ++ first;
+      behind = last ++ after_reader.ahead;
+      taken_is = ap (λ (bytes : List ℕ). served.used ++ bytes) (keeps.bytes ∙ ap (λ (read : List ℕ). read ++ after_reader.ahead) (sym (take-append-drop count keeps.read)) ∙ append_assoc first last after_reader.ahead)
+          ∙ sym (append_assoc served.used first (last ++ after_reader.ahead));
+      before = front-lines served.raws served.used served.splits first keeps.front;
+      soon = omega (arith, few, length-append last after_reader.ahead, length-drop count keeps.read);
+    }
+
 -- a script that is too long
-pub serves-full : (number : ℕ) (opened now : WireView) (reader after_reader : ReaderView) (left rest more before after : Option (List ℕ)) → Served number opened now reader left rest before after → Finds (Ok Full) reader after_reader rest more →
+pub serves-full : (number : ℕ) (opened now : WireView) (reader after_reader : ReaderView) (left rest more before after : Option (List ℕ)) → Served number opened now reader left rest before after → IsWithin after_reader.ahead after_reader.given → Finds (Ok Full) reader after_reader rest more →
     Serves ScriptTooLong opened now left more before after
-serves-full number opened now reader after_reader left rest more before after served finds =
+serves-full number opened now reader after_reader left rest more before after served within finds =
     let all = reader.ahead ++ finds.came in
     let full = finds.says in
     let taken = taken-more number opened now reader left rest more before after finds.came served finds.taken in
@@ -180,7 +203,7 @@ serves-full number opened now reader after_reader left rest more before after se
       extends = served.extends;
       plays = (
         script,
-        record { taken = served.used ++ all; is_script = is-script (served.used ++ all) left more taken; long = omega (arith, size, served.read, full.read, full.some) },
+        record { taken = served.used ++ all; is_script = is-script (served.used ++ all) left more taken; long = omega (arith, size, served.read, full.read, full.some, within.came, all-read number opened now reader after_reader left rest before after all served finds.keeps) },
         record {
           text = served.text;
           new = now.on;
@@ -221,9 +244,9 @@ told-long : (old : ReaderView) (all : List ℕ) (rest : Option (List ℕ)) → I
 told-long old all rest long = record { raw = long.raw; more = long.more; feedless = long.feedless; bytes = long.bytes; over = told-over old.given long.raw long.more rest long.over }
 
 -- the next line is too long
-pub serves-long : (number : ℕ) (opened now : WireView) (reader after_reader : ReaderView) (left rest more before after : Option (List ℕ)) → Served number opened now reader left rest before after → Finds (Ok TooLong) reader after_reader rest more →
+pub serves-long : (number : ℕ) (opened now : WireView) (reader after_reader : ReaderView) (left rest more before after : Option (List ℕ)) → Served number opened now reader left rest before after → IsWithin after_reader.ahead after_reader.given → Finds (Ok TooLong) reader after_reader rest more →
     Serves (BadLine number why.TooLong) opened now left more before after
-serves-long number opened now reader after_reader left rest more before after served finds =
+serves-long number opened now reader after_reader left rest more before after served within finds =
     let all = reader.ahead ++ finds.came in
     let taken = taken-more number opened now reader left rest more before after finds.came served finds.taken in
     let found = long-lines served.raws served.used served.splits reader after_reader all served.read (rest_of more) (told-long reader all more finds.says) in
@@ -239,7 +262,7 @@ serves-long number opened now reader after_reader left rest more before after se
         is-script (served.used ++ all) left more taken,
         long-faulty found.0 found.2,
         record {
-          is_line = record { more = found.1; lines_are = ap script_lines (append_assoc served.used all (rest_of more)) ∙ found.3 };
+          is_line = record { more = found.1; lines_are = ap script_lines (append_assoc served.used all (rest_of more)) ∙ found.3; soon = no-further number opened now reader after_reader left rest before after all served within.waiting finds.keeps };
           number_is = line-number number served.raws served.number_is;
           plays = before-line number opened now reader left rest before after served;
         },
@@ -251,20 +274,20 @@ pub record AtLine (raws : List (List ℕ)) (line : List ℕ) (left rest : Option
   pub script : List ℕ
   pub taken : List ℕ
   pub is_script : IsScript script taken left rest
-  pub is_line : IsLine script (map without_return raws) line
+  pub is_line : IsLine script taken (map without_return raws) line
 
 -- a line that a line feed ends
-pub at-line : (number : ℕ) (opened now : WireView) (reader after_reader : ReaderView) (left rest more before after : Option (List ℕ)) → (served : Served number opened now reader left rest before after) → after_reader.given ≤ most_bytes → Finds (Ok Line) reader after_reader rest more →
+pub at-line : (number : ℕ) (opened now : WireView) (reader after_reader : ReaderView) (left rest more before after : Option (List ℕ)) → (served : Served number opened now reader left rest before after) → IsWithin after_reader.ahead after_reader.given → Finds (Ok Line) reader after_reader rest more →
     AtLine served.raws after_reader.line left more
 at-line number opened now reader after_reader left rest more before after served within finds =
     let all = reader.ahead ++ finds.came in
     let taken = taken-more number opened now reader left rest more before after finds.came served finds.taken in
-    let found = line-lines served.raws served.used served.splits reader after_reader all served.read finds.says within (rest_of more) in
+    let found = line-lines served.raws served.used served.splits reader after_reader all served.read finds.says within.read (rest_of more) in
     record {
       script = (served.used ++ all) ++ rest_of more;
       taken = served.used ++ all;
       is_script = is-script (served.used ++ all) left more taken;
-      is_line = record { more = found.0; lines_are = ap script_lines (append_assoc served.used all (rest_of more)) ∙ found.1 };
+      is_line = record { more = found.0; lines_are = ap script_lines (append_assoc served.used all (rest_of more)) ∙ found.1; soon = no-further number opened now reader after_reader left rest before after all served within.waiting finds.keeps };
     }
 
 -- what is said of a last line, as if what is left were told
@@ -273,36 +296,36 @@ told-last old new all rest last =
     record { feedless = last.feedless; bytes = last.bytes; read = last.read; some = last.some; fits = last.fits; ahead = last.ahead; left = none-left rest last.left }
 
 -- a line that the end of the input ends
-pub at-last : (number : ℕ) (opened now : WireView) (reader after_reader : ReaderView) (left rest more before after : Option (List ℕ)) → (served : Served number opened now reader left rest before after) → after_reader.given ≤ most_bytes → Finds (Ok Last) reader after_reader rest more →
+pub at-last : (number : ℕ) (opened now : WireView) (reader after_reader : ReaderView) (left rest more before after : Option (List ℕ)) → (served : Served number opened now reader left rest before after) → IsWithin after_reader.ahead after_reader.given → Finds (Ok Last) reader after_reader rest more →
     AtLine served.raws after_reader.line left more
 at-last number opened now reader after_reader left rest more before after served within finds =
     let all = reader.ahead ++ finds.came in
     let taken = taken-more number opened now reader left rest more before after finds.came served finds.taken in
-    let found = last-lines served.raws served.used served.splits reader after_reader all served.read within (rest_of more) (told-last reader after_reader all more finds.says) in
+    let found = last-lines served.raws served.used served.splits reader after_reader all served.read within.read (rest_of more) (told-last reader after_reader all more finds.says) in
     record {
       script = (served.used ++ all) ++ rest_of more;
       taken = served.used ++ all;
       is_script = is-script (served.used ++ all) left more taken;
-      is_line = record { more = []; lines_are = ap script_lines (append_assoc served.used all (rest_of more)) ∙ found };
+      is_line = record { more = []; lines_are = ap script_lines (append_assoc served.used all (rest_of more)) ∙ found; soon = no-further number opened now reader after_reader left rest before after all served within.waiting finds.keeps };
     }
 
 -- an exit before a line
-pub serves-exit : (next : Next) (exit : Exit) (number : ℕ) (opened now : WireView) (reader after_reader : ReaderView) (left rest more before after : Option (List ℕ)) → exit_at next number ≡ Some exit → Served number opened now reader left rest before after → after_reader.given ≤ most_bytes →
+pub serves-exit : (next : Next) (exit : Exit) (number : ℕ) (opened now : WireView) (reader after_reader : ReaderView) (left rest more before after : Option (List ℕ)) → exit_at next number ≡ Some exit → Served number opened now reader left rest before after → IsWithin after_reader.ahead after_reader.given →
     Finds (Ok next) reader after_reader rest more → Serves exit opened now left more before after
 serves-exit Line exit number opened now reader after_reader left rest more before after same served within finds = absurd (cc)
 serves-exit Last exit number opened now reader after_reader left rest more before after same served within finds = absurd (cc)
 serves-exit End exit number opened now reader after_reader left rest more before after same served within finds =
     let exit_is : Done ≡ exit = cc in
-    subst (λ (e : Exit). Serves e opened now left more before after) exit_is (serves-end number opened now reader after_reader left rest more before after served within finds)
+    subst (λ (e : Exit). Serves e opened now left more before after) exit_is (serves-end number opened now reader after_reader left rest more before after served within.read finds)
 serves-exit TooLong exit number opened now reader after_reader left rest more before after same served within finds =
     let exit_is : BadLine number why.TooLong ≡ exit = cc in
-    subst (λ (e : Exit). Serves e opened now left more before after) exit_is (serves-long number opened now reader after_reader left rest more before after served finds)
+    subst (λ (e : Exit). Serves e opened now left more before after) exit_is (serves-long number opened now reader after_reader left rest more before after served within finds)
 serves-exit Full exit number opened now reader after_reader left rest more before after same served within finds =
     let exit_is : ScriptTooLong ≡ exit = cc in
-    subst (λ (e : Exit). Serves e opened now left more before after) exit_is (serves-full number opened now reader after_reader left rest more before after served finds)
+    subst (λ (e : Exit). Serves e opened now left more before after) exit_is (serves-full number opened now reader after_reader left rest more before after served within finds)
 
 -- a line, where there is no such exit
-pub at-any : (next : Next) (number : ℕ) (opened now : WireView) (reader after_reader : ReaderView) (left rest more before after : Option (List ℕ)) → exit_at next number ≡ None → (served : Served number opened now reader left rest before after) → after_reader.given ≤ most_bytes →
+pub at-any : (next : Next) (number : ℕ) (opened now : WireView) (reader after_reader : ReaderView) (left rest more before after : Option (List ℕ)) → exit_at next number ≡ None → (served : Served number opened now reader left rest before after) → IsWithin after_reader.ahead after_reader.given →
     Finds (Ok next) reader after_reader rest more → AtLine served.raws after_reader.line left more
 at-any Line number opened now reader after_reader left rest more before after same served within finds = at-line number opened now reader after_reader left rest more before after served within finds
 at-any Last number opened now reader after_reader left rest more before after same served within finds = at-last number opened now reader after_reader left rest more before after served within finds

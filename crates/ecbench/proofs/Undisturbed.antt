@@ -199,8 +199,8 @@ upto-whole (BadLine number reason) on table last entries left rest before after 
   faulty,
   record { is_line = stops.is_line; number_is = stops.number_is; plays = (plays-whole on table last lines entries before after ready stops.plays run whole).plays },
 )
-upto-whole SourceFault on table last entries left rest before after ready (taken, takes, plays) run whole =
-    (taken, takes, (plays-whole on table last _ entries before after ready plays run whole).plays)
+upto-whole SourceFault on table last entries left rest before after ready (taken, takes, short, plays) run whole =
+    (taken, takes, short, (plays-whole on table last _ entries before after ready plays run whole).plays)
 upto-whole SinkFault on table last entries left rest before after ready (script, taken, line, lines, is_script, is_line, stops) run whole =
     let split = run-split table last stops.first stops.last (subst (λ (e : List Entry). IsRun table e last) stops.entries_are run) in
     let wholes = whole-both stops.first stops.last (subst (λ (e : List Entry). AreWhole e) stops.entries_are whole) in

@@ -22,11 +22,11 @@ pub record IsWhole (script : List ℕ) (left rest : Option (List ℕ)) : Type 0 
   pub end : IfSome rest (λ bytes. bytes ≡ [])
   pub fits : length script ≤ most_bytes
 
--- one byte more was taken than a script has
+-- one byte more was taken than a script has, and no more
 pub record IsLong (script : List ℕ) (left rest : Option (List ℕ)) : Type 0 where
   pub taken : List ℕ
   pub is_script : IsScript script taken left rest
-  pub long : most_bytes + 1 ≤ length taken
+  pub long : length taken ≡ most_bytes + 1
 
 -- these lines were done, and what they print was printed
 pub record Plays {State : Type 0} (life : Life State)
@@ -36,15 +36,25 @@ pub record Plays {State : Type 0} (life : Life State)
   pub done : AreDone life 1 old lines entries text new
   pub printed : Appends text before after
 
--- a line of a script, with the lines before it
-pub record IsLine (script : List ℕ) (lines : List (List ℕ)) (line : List ℕ) : Type 0 where
+-- in the front of what was taken just these lines end, and at most 4,097 bytes are behind it: the one that ends the next line,
+-- and 4,096 that wait
+pub record ReadsNoFurther (lines : List (List ℕ)) (taken : List ℕ) : Type 0 where
+  pub front : List ℕ
+  pub behind : List ℕ
+  pub taken_is : taken ≡ front ++ behind
+  pub before : ended_lines front ≡ lines
+  pub soon : length behind ≤ 4097
+
+-- a line of a script, with the lines before it, and it was read no further
+pub record IsLine (script taken : List ℕ) (lines : List (List ℕ)) (line : List ℕ) : Type 0 where
   pub more : List (List ℕ)
   pub lines_are : script_lines script ≡ lines ++ line ∷ more
+  pub soon : ReadsNoFurther lines taken
 
 -- the first line that is outside the grammar: those before it were done
 pub record StopsAtFault {State : Type 0} (life : Life State) (old : State)
-    (number : ℕ) (script line : List ℕ) (lines : List (List ℕ)) (entries : List Entry) (before after : Option (List ℕ)) : Type 0 where
-  pub is_line : IsLine script lines line
+    (number : ℕ) (script taken line : List ℕ) (lines : List (List ℕ)) (entries : List Entry) (before after : Option (List ℕ)) : Type 0 where
+  pub is_line : IsLine script taken lines line
   pub number_is : number ≡ length lines + 1
   pub plays : Plays life old lines entries before after
 
@@ -76,14 +86,14 @@ PlaysUpTo life old Done entries left rest before after =
     (script : List ℕ) × IsWhole script left rest × Plays life old (lines_of script) entries before after
 PlaysUpTo life old (BadLine number reason) entries left rest before after =
     (script taken line : List ℕ) × (lines : List (List ℕ)) × IsScript script taken left rest × IsFaulty line reason
-    × StopsAtFault life old number script line lines entries before after
+    × StopsAtFault life old number script taken line lines entries before after
 PlaysUpTo life old SourceFault entries left rest before after =
-    (taken : List ℕ) × Takes taken left rest × Plays life old (ended_lines taken) entries before after
+    (taken : List ℕ) × Takes taken left rest × (length taken ≤ most_bytes) × Plays life old (ended_lines taken) entries before after
 PlaysUpTo life old SinkFault entries left rest before after =
-    (script taken line : List ℕ) × (lines : List (List ℕ)) × IsScript script taken left rest × IsLine script lines line
+    (script taken line : List ℕ) × (lines : List (List ℕ)) × IsScript script taken left rest × IsLine script taken lines line
     × StopsInText life old lines line entries before after
 PlaysUpTo life old NoMemory entries left rest before after =
-    (script taken line : List ℕ) × (lines : List (List ℕ)) × IsScript script taken left rest × IsLine script lines line
+    (script taken line : List ℕ) × (lines : List (List ℕ)) × IsScript script taken left rest × IsLine script taken lines line
     × StopsBefore life old lines entries before after
 PlaysUpTo life old ScriptTooLong entries left rest before after =
     (script : List ℕ) × IsLong script left rest × Plays life old (script_lines script) entries before after

@@ -21,6 +21,12 @@ if_cases : {T : Type 0} (P : T → Type 0) (test : Bool) (x y : T) → (test ≡
 if_cases P true x y holds fails = holds refl
 if_cases P false x y holds fails = fails refl
 
+-- all bytes but the last one
+front-pushed : (line : List ℕ) (byte : ℕ) → HasNoFeed line → HasNoFeed (take (length (line ++ byte ∷ []) - 1) (line ++ byte ∷ []))
+front-pushed line byte feedless =
+    let count : length (line ++ byte ∷ []) - 1 ≡ length line = omega (arith, length-append line (byte ∷ [])) in
+    All-same (λ byte. (byte == 10) ≡ false) _ line (ap (λ (n : ℕ). take n (line ++ byte ∷ [])) count ∙ take-append_seam line (byte ∷ [])) feedless
+
 -- these bytes of a line were read so far
 pub record Reading (old : ReaderView) (line : List ℕ) (input : InputView) (left now : Option (List ℕ)) (before asks : Asks) : Type 0 where
   pub came : List ℕ
@@ -111,7 +117,7 @@ module _ (old : ReaderView) (line : List ℕ) (input : InputView) (left now : Op
         let all : old.ahead ++ (reading.came ++ finds.came) ≡ line = together finds.came ∙ ap (λ (more : List ℕ). line ++ more) finds.says.0 ∙ append-nil line in
         let given : next.given ≡ old.given + length line = omega (arith, reading.read, finds.says.2) in
         answered (Err failed) finds (Err told) line (omega (arith, finds.says.2, within))
-        (record { read = line; bytes = all ∙ sym (append-nil line) ∙ ap (λ (more : List ℕ). line ++ more) (sym finds.says.1); given = given })
+        (record { read = line; front = All-take (λ byte. (byte == 10) ≡ false) (length line - 1) line reading.feedless; bytes = all ∙ sym (append-nil line) ∙ ap (λ (more : List ℕ). line ++ more) (sym finds.says.1); given = given })
         (record {
           feedless = All-same (λ byte. (byte == 10) ≡ false) (old.ahead ++ (reading.came ++ finds.came)) line all reading.feedless;
           read = omega (arith, given, ap length all, within);
@@ -126,7 +132,7 @@ module _ (old : ReaderView) (line : List ℕ) (input : InputView) (left now : Op
         let all : old.ahead ++ (reading.came ++ finds.came) ≡ line ++ 10 ∷ next.ahead = together finds.came ∙ ap (λ (more : List ℕ). line ++ more) (finds.says.0 ∙ ap (λ (first : ℕ). first ∷ next.ahead) feed) in
         let read : next.given ≡ old.given + length line + 1 = omega (arith, reading.read, finds.says.1) in
         answered (Ok (Byte byte)) finds (Ok (if nat_le (length stripped) longest_line then Line else TooLong)) stripped (omega (arith, finds.says.1, within))
-        (record { read = line ++ 10 ∷ []; bytes = all ∙ sym (append_assoc line (10 ∷ []) next.ahead); given = omega (arith, read, length-append line (10 ∷ [])) })
+        (record { read = line ++ 10 ∷ []; front = front-pushed line 10 reading.feedless; bytes = all ∙ sym (append_assoc line (10 ∷ []) next.ahead); given = omega (arith, read, length-append line (10 ∷ [])) })
         (if_cases (λ (answer : Next). Says (Ok answer) old (record { ahead = next.ahead; given = next.given; line = stripped }) (old.ahead ++ (reading.came ++ finds.came)) rest) (nat_le (length stripped) longest_line) Line TooLong
         (λ fits. record { raw = line; feedless = reading.feedless; bytes = all; read = read; stripped = same; fits = leb-true (length stripped) longest_line fits })
         (λ over. record {
@@ -144,7 +150,7 @@ module _ (old : ReaderView) (line : List ℕ) (input : InputView) (left now : Op
         let all : old.ahead ++ (reading.came ++ finds.came) ≡ (line ++ byte ∷ []) ++ next.ahead = together finds.came ∙ ap (λ (more : List ℕ). line ++ more) finds.says.0 ∙ sym (append_assoc line (byte ∷ []) next.ahead) in
         let given : next.given ≡ old.given + length (line ++ byte ∷ []) = omega (arith, reading.read, finds.says.1, length-append line (byte ∷ [])) in
         answered (Ok (Byte byte)) finds (Ok TooLong) kept (omega (arith, finds.says.1, within))
-        (record { read = line ++ byte ∷ []; bytes = all; given = given })
+        (record { read = line ++ byte ∷ []; front = front-pushed line byte reading.feedless; bytes = all; given = given })
         (record {
           raw = line ++ byte ∷ [];
           more = next.ahead;
@@ -161,7 +167,7 @@ module _ (old : ReaderView) (line : List ℕ) (input : InputView) (left now : Op
         let read : next.given ≡ old.given + length line = omega (arith, reading.read, finds.says.2) in
         let P : Next → Type 0 = λ (answer : Next). Says (Ok answer) old (record { ahead = next.ahead; given = next.given; line = line }) (old.ahead ++ (reading.came ++ finds.came)) rest in
         answered (Ok CameEnd) finds (Ok (if length line == 0 then End else (if nat_le (length line) longest_line then Last else TooLong))) line (omega (arith, finds.says.2, within))
-        (record { read = line; bytes = all ∙ sym (append-nil line) ∙ ap (λ (more : List ℕ). line ++ more) (sym finds.says.1); given = read })
+        (record { read = line; front = All-take (λ byte. (byte == 10) ≡ false) (length line - 1) line reading.feedless; bytes = all ∙ sym (append-nil line) ∙ ap (λ (more : List ℕ). line ++ more) (sym finds.says.1); given = read })
         (if_cases P (length line == 0) End (if nat_le (length line) longest_line then Last else TooLong)
         (λ none. record { bytes = all ∙ nil_from_length line (eqb-true (length line) 0 none); read = omega (arith, read, eqb-true (length line) 0 none); ahead = finds.says.1; left = finds.says.3 })
         (λ some. if_cases P (nat_le (length line) longest_line) Last TooLong
@@ -189,7 +195,7 @@ module _ (old : ReaderView) (line : List ℕ) (input : InputView) (left now : Op
         let more = input.ahead ++ finds.came in
         let read : old.given + length line ≡ most_bytes = omega (arith, reading.read, finds.says.1) in
         answered (Ok CameFull) finds (Ok (if nat_le (length line) longest_line then Full else TooLong)) kept (omega (arith, finds.says.1))
-        (record { read = line; bytes = together finds.came ∙ ap (λ (more : List ℕ). line ++ more) finds.says.2; given = omega (arith, reading.read, finds.says.3) })
+        (record { read = line; front = All-take (λ byte. (byte == 10) ≡ false) (length line - 1) line reading.feedless; bytes = together finds.came ∙ ap (λ (more : List ℕ). line ++ more) finds.says.2; given = omega (arith, reading.read, finds.says.3) })
         (if_cases (λ (answer : Next). Says (Ok answer) old (record { ahead = next.ahead; given = next.given; line = kept }) (old.ahead ++ (reading.came ++ finds.came)) rest) (nat_le (length line) longest_line) Full TooLong
         (λ fits. record { raw = line; more = more; feedless = reading.feedless; bytes = together finds.came; fits = leb-true (length line) longest_line fits; read = read; some = finds.says.0 })
         (λ over. record { raw = line; more = more; feedless = reading.feedless; bytes = together finds.came; over = inr (inr (inr (leb-false (length line) longest_line over, read, finds.says.0))) }))

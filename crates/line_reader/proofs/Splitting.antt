@@ -184,6 +184,11 @@ module _ (raws : List (List ℕ)) (used : List ℕ) (splits : Splits raws used) 
       ∙ splits-lines cut_line raws used raw splits
       ∙ ap (λ (rest : List (List ℕ)). map without_return raws ++ rest) (last-alone cut_line raw feedless)
 
+  -- no line is ended by bytes with no line feed
+  pub front-lines : (front : List ℕ) → HasNoFeed front → ended_lines (used ++ front) ≡ map without_return raws
+  front-lines front feedless =
+      splits-lines (λ last. []) raws used front splits ∙ ap (λ (rest : List (List ℕ)). map without_return raws ++ rest) (last-alone (λ last. []) front feedless) ∙ append-nil (map without_return raws)
+
   module _ (old new : ReaderView) (all : List ℕ) (same : length used ≡ old.given) where
     module _ (line : IsLine old new all) where
       -- the parts with a line that was found
@@ -256,5 +261,4 @@ module _ (raws : List (List ℕ)) (used : List ℕ) (splits : Splits raws used) 
 
     -- up to a failure no line was ended but those
     pub failed-lines : IsFailed old new all → ended_lines (used ++ all) ≡ map without_return raws
-    failed-lines failed =
-        splits-lines (λ last. []) raws used all splits ∙ ap (λ (rest : List (List ℕ)). map without_return raws ++ rest) (last-alone (λ last. []) all failed.feedless) ∙ append-nil (map without_return raws)
+    failed-lines failed = front-lines all failed.feedless

@@ -82,9 +82,10 @@ Says (Ok TooLong) old new all rest = IsTooLong old all rest
 Says (Ok Full) old new all rest = IsFull old all
 Says (Err failed) old new all rest = IsFailed old new all
 
--- some of the bytes were read, and the others are ahead
+-- some of the bytes were read, of which none but the last one is a line feed, and the others are ahead
 pub record Keeps (old new : ReaderView) (all : List ℕ) : Type 0 where
   pub read : List ℕ
+  pub front : HasNoFeed (take (length read - 1) read)
   pub bytes : all ≡ read ++ new.ahead
   pub given : new.given ≡ old.given + length read
 

@@ -24,12 +24,12 @@ returns-in-Err-clause-serves g c = serves-failed c.loop-number.number _ _ _ _ _ 
 
 pub returns-in-Some-clause-serves : goal.returns-in-Some-clause-serves
 returns-in-Some-clause-serves g c =
-    serves-exit c.in-Ok.next c.in-Some.exit c.loop-number.number _ _ _ _ _ _ _ _ _ (sym c.exit_at.ensures ∙ c.in-Some.is) c.loop-number.invariant.0 c.next.ensures.within.read c.in-Ok.ensures.reads.finds
+    serves-exit c.in-Ok.next c.in-Some.exit c.loop-number.number _ _ _ _ _ _ _ _ _ (sym c.exit_at.ensures ∙ c.in-Some.is) c.loop-number.invariant.0 c.next.ensures.within c.in-Ok.ensures.reads.finds
 
 pub returns-in-Err-serve_line-clause-serves : goal.returns-in-Err-serve_line-clause-serves
 returns-in-Err-serve_line-clause-serves g c =
     let none : exit_at c.in-Ok.next c.loop-number.number ≡ None = sym c.exit_at.ensures ∙ c.in_default.is in
-    let line = at-any c.in-Ok.next c.loop-number.number _ _ _ _ _ _ _ _ _ none c.loop-number.invariant.0 c.next.ensures.within.read c.in-Ok.ensures.reads.finds in
+    let line = at-any c.in-Ok.next c.loop-number.number _ _ _ _ _ _ _ _ _ none c.loop-number.invariant.0 c.next.ensures.within c.in-Ok.ensures.reads.finds in
     let served : ServesLine (Err c.in-Err-serve_line.exit) c.loop-number.number c.next.new.self.line (wire_view LpcKind c.loop-number.bench) (wire_view LpcKind c.serve_line.new.bench) (g.K.Sink.written c.loop-number.sink) (g.K.Sink.written c.serve_line.new.sink) =
     subst (λ (bytes : List ℕ). ServesLine (Err c.in-Err-serve_line.exit) c.loop-number.number bytes (wire_view LpcKind c.loop-number.bench) (wire_view LpcKind c.serve_line.new.bench) (g.K.Sink.written c.loop-number.sink) (g.K.Sink.written c.serve_line.new.sink)) c.line.ensures c.in-Err-serve_line.ensures.serves in
     serves-stopped c.in-Err-serve_line.exit c.loop-number.number _ _ _ _ _ _ _ _ _ _ _ c.loop-number.invariant.0 refl refl line served
