@@ -43,7 +43,7 @@ pub fn write_in_row<W: Wire>(w: &mut W, port: u16, bytes: &HexBytes<'_>)
     }
 }
 
-/// Reads so many ports from this one on, and appends the bytes that the host got to the text.
+/// Reads so many ports from this one on. The text, which is empty, becomes that of the bytes that the host got.
 pub fn read_in_row<W: Wire>(w: &mut W, port: u16, count: u16, text: &mut LineText)
     requires ports { port + count ≤ 65536 }
     requires few { count ≤ 4096 }

@@ -1,13 +1,10 @@
-use Rattle.std.proofs.Common.{◌≡◌, ap, sym, subst, ◌∙◌, ℕ, List, Ok}
-use Rattle.ec_types.specs.declared.bus.BusKind.TheVariants.{Lpc as LpcKind}
+use Rattle.std.proofs.Common.{◌≡◌, ap, sym, ◌∙◌, Ok}
 use Rattle.ec_model.specs.declared.event.Event.TheVariants as event
 use Rattle.ec_model.specs.declared.event.WorldEvent.TheVariants as world
 use Rattle.script_lines.specs.declared.line.Line.{Line}
 use Rattle.script_lines.specs.declared.line.Line.TheVariants as line
 use Rattle.script_lines.specs.Lines.{line_of}
-use Rattle.bench_wire.specs.BenchView.{wire_view}
 use Rattle.raw_lines.specs.Raw.{Waits, Writes, Reads}
-use Rattle.ecbench.specs.Serving.{ServesRaw}
 use Rattle.ecbench.proofs.Adding.{event-serves, raw-serves}
 use Rattle.ecbench.proofs.EventLemmas.{deed-read}
 use Rattle.ecbench.proofs.serving.serve_line.Goals as goal
