@@ -273,7 +273,7 @@ six-or status true same idle =
       eq-of n same = grind (arith, eqb_tells)
 
 -- the same as a test
-idle-is-not-six : (status : ℕ) → is_busy status ≡ false → (status == 0x06) ≡ false
+pub idle-is-not-six : (status : ℕ) → is_busy status ≡ false → (status == 0x06) ≡ false
 idle-is-not-six status idle = six-or status (status == 0x06) refl idle
 
 -- a poll leaves the settled table, and no request waits

@@ -1,0 +1,18 @@
+-- A whole transaction on LPC, from a bus that is at rest to one that is.
+use Rattle.std.specs.Prelude.{◌≡◌, ℕ, List, IsTrue}
+use Rattle.ec_types.specs.declared.bus.BusKind.TheVariants.{Lpc}
+use Rattle.ec_model.specs.declared.event.Entry.{Entry}
+use Rattle.ec_model.specs.Bus.{BusState, is_at_rest}
+use Rattle.ec_model.specs.Send.{Exchange}
+use Rattle.ec_model.specs.Table.{Table, Core, table_of}
+
+-- the table has this core, and its bus is at rest
+pub record IsAtRest (core : Core) (table : Table) : Type 0 where
+  pub bus : BusState
+  pub same : table ≡ table_of core bus
+  pub rest : IsTrue (is_at_rest bus)
+
+-- the entries are a whole exchange of a request for this response, which leaves this core, and the bus at rest
+pub record IsTransacted (request response : List ℕ) (core : Core) (entries : List Entry) (new : Table) : Type 0 where
+  pub exchange : Exchange Lpc entries request response
+  pub leaves : IsAtRest core new
