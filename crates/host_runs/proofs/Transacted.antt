@@ -21,7 +21,7 @@ use Rattle.host_runs.proofs.LpcSend.{idle-is-not-six}
 use Rattle.host_runs.proofs.LpcExchange.{lpc-exchange}
 
 -- a test that does not hold
-not-true : (test : Bool) → not test ≡ true → test ≡ false
+pub not-true : (test : Bool) → not test ≡ true → test ≡ false
 not-true true same = cc
 not-true false same = refl
 

@@ -1,10 +1,13 @@
 -- A whole transaction on LPC, from a bus that is at rest to one that is.
-use Rattle.std.specs.Prelude.{◌≡◌, ℕ, List, IsTrue}
+use Rattle.std.specs.Prelude.{◌≡◌, ℕ, List, [], ◌∷◌, map, IsTrue}
 use Rattle.ec_types.specs.declared.bus.BusKind.TheVariants.{Lpc}
 use Rattle.ec_model.specs.declared.event.Entry.{Entry}
 use Rattle.ec_model.specs.Bus.{BusState, is_at_rest}
+use Rattle.ec_model.specs.Run.{IsRun}
 use Rattle.ec_model.specs.Send.{Exchange}
 use Rattle.ec_model.specs.Table.{Table, Core, table_of}
+use Rattle.ec_wire.specs.Quiet.{quiet_entry}
+use Rattle.host_runs.specs.Exchange.{lpc_status_seen, lpc_exchange}
 
 -- the table has this core, and its bus is at rest
 pub record IsAtRest (core : Core) (table : Table) : Type 0 where
@@ -16,3 +19,13 @@ pub record IsAtRest (core : Core) (table : Table) : Type 0 where
 pub record IsTransacted (request response : List ℕ) (core : Core) (entries : List Entry) (new : Table) : Type 0 where
   pub exchange : Exchange Lpc entries request response
   pub leaves : IsAtRest core new
+
+-- the entries in which the host sees the table's status once, and a request is exchanged for this response
+abbrev pub exchange_entries : (request response : List ℕ) → Table → List Entry
+exchange_entries request response table = map quiet_entry (lpc_exchange (lpc_status_seen table ∷ []) request response)
+
+-- those entries are a run, and a whole exchange
+pub record MakesTransaction (request response : List ℕ) (core : Core) (table : Table) : Type 0 where
+  pub new : Table
+  pub run : IsRun table (exchange_entries request response table) new
+  pub transacted : IsTransacted request response core (exchange_entries request response table) new
