@@ -1,13 +1,18 @@
--- A whole transaction on LPC, from a bus that is at rest to one that is.
-use Rattle.std.specs.Prelude.{◌≡◌, ℕ, List, [], ◌∷◌, map, IsTrue}
+-- Buses at rest, and a whole transaction on LPC from one to the next.
+use Rattle.std.specs.Prelude.{◌≡◌, ℕ, Bool, true, List, [], ◌∷◌, map, IsTrue}
 use Rattle.ec_types.specs.declared.bus.BusKind.TheVariants.{Lpc}
 use Rattle.ec_model.specs.declared.event.Entry.{Entry}
 use Rattle.ec_model.specs.Bus.{BusState, is_at_rest}
 use Rattle.ec_model.specs.Run.{IsRun}
 use Rattle.ec_model.specs.Send.{Exchange}
-use Rattle.ec_model.specs.Table.{Table, Core, table_of}
+use Rattle.ec_model.specs.Table.{Table, Power, Off, On, Core, table_of}
 use Rattle.ec_wire.specs.Quiet.{quiet_entry}
 use Rattle.host_runs.specs.Exchange.{lpc_status_seen, lpc_exchange}
+
+-- whether no transaction is under way: the controller is off, or its bus is at rest
+abbrev pub is_resting : Power → Bool
+is_resting Off = true
+is_resting (On awake) = is_at_rest awake.bus
 
 -- the table has this core, and its bus is at rest
 pub record IsAtRest (core : Core) (table : Table) : Type 0 where
