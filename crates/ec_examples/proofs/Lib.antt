@@ -3,3 +3,4 @@ pub mod TryLemmas
 pub mod SyncLemmas
 pub mod RoundLemmas
 pub mod BenchLemmas
+pub mod ImageLemmas

@@ -7,3 +7,4 @@ pub mod Waiting
 pub mod Sends
 pub mod Tries
 pub mod I2cExchanges
+pub mod Journals

@@ -37,7 +37,7 @@ pub as-table : (table : Table) (awake : Awake) → table.power ≡ On awake → 
 as-table table awake on kind = rw (kind, ← on) refl
 
 -- a settled table is valid
-whole-leaves : (table : Table) (event : Event) (power : Power) → EventLeavesBy Whole table event power (stepped_by table event power)
+pub whole-leaves : (table : Table) (event : Event) (power : Power) → EventLeavesBy Whole table event power (stepped_by table event power)
 whole-leaves table event Off = refl
 whole-leaves table event (On awake) = refl
 
@@ -90,7 +90,7 @@ hear-lead after window status outcome body rest bytes heard new size front short
     record { outcome_is = lead.0; bytes_are = whole.0; heard_is = heard_is ∙ ap (λ (on : Bool). heard_if on (heard_with outcome bytes)) whole.1 ∙ judged; leaves = read.1 }
 
 -- five lists, grouped otherwise
-regroup : (a b c d : List HostCall) (x : HostCall) → a ++ b ++ x ∷ [] ++ c ++ d ≡ a ++ (b ++ (x ∷ (c ++ d)))
+pub regroup : (a b c d : List HostCall) (x : HostCall) → a ++ b ++ x ∷ [] ++ c ++ d ≡ a ++ (b ++ (x ∷ (c ++ d)))
 regroup a b c d x = simp append_assoc
 
 -- four lists, grouped otherwise
@@ -132,11 +132,11 @@ record Asked (core : Core) (packet gots : List ℕ) (got : ℕ) (statuses : List
   pub answers : Answers after status body packet gots got statuses ready tail new
 
 -- the window keeps its length
-overwritten-size : (bytes window : List ℕ) → length window ≡ 256 → length bytes ≤ 256 → length (overwritten 0 bytes window) ≡ 256
+pub overwritten-size : (bytes window : List ℕ) → length window ≡ 256 → length bytes ≤ 256 → length (overwritten 0 bytes window) ≡ 256
 overwritten-size bytes window size short = omega (arith, length-append bytes (drop (0 + length bytes) window), length-drop (0 + length bytes) window, size, short)
 
 -- the packet at the front of the window is the request
-handled-window : (core : Core) (packet window : List ℕ) → IsPlain packet → handled core 256 (overwritten 0 packet window) ≡ handled core 256 packet
+pub handled-window : (core : Core) (packet window : List ℕ) → IsPlain packet → handled core 256 (overwritten 0 packet window) ≡ handled core 256 packet
 handled-window core packet window plain = ap (λ (f : _). row_of core 256 (admitted_from core f)) (framing-append packet (drop (0 + length packet) window) plain.header plain.whole)
 
 -- a send from a bus that is not busy, up to where its response stands in the window
@@ -273,7 +273,7 @@ six-or status true same idle =
       eq-of n same = grind (arith, eqb_tells)
 
 -- the same as a test
-idle-is-not-six : (status : ℕ) → is_busy status ≡ false → (status == 0x06) ≡ false
+pub idle-is-not-six : (status : ℕ) → is_busy status ≡ false → (status == 0x06) ≡ false
 idle-is-not-six status idle = six-or status (status == 0x06) refl idle
 
 -- a poll leaves the settled table, and no request waits

@@ -4,6 +4,7 @@ ghost use Rattle.std.specs.List.{list_all};
 ghost use Rattle.ec_types.specs.declared.bus.BusKind.TheVariants.{Lpc};
 ghost use Rattle.ec_model.specs.declared.event.Entry.{Entry};
 ghost use Rattle.ec_model.specs.Packet.{response_packet};
+ghost use Rattle.ec_model.specs.Bus.{is_at_rest};
 ghost use Rattle.ec_model.specs.HostCalls.{HostCall};
 ghost use Rattle.ec_model.specs.Table.{Table, Awake, Core, Off, On, Valid, core_of};
 ghost use Rattle.ec_model.specs.Answer.{Answered};
@@ -18,6 +19,7 @@ ghost use Rattle.host_runs.specs.Calm.{CallsLead};
 ghost use Rattle.host_runs.specs.Exchange.{first_statuses, Exchanges, IsExchange};
 ghost use Rattle.host_runs.specs.Resting.{Rests};
 ghost use Rattle.host_runs.specs.Served.{IsPlain, Serves, Settles};
+ghost use Rattle.host_runs.specs.Transaction.{IsTransacted, MakesTransaction};
 
 /// An undisturbed send to a controller that is on is served, once the request that waits is. One to a controller that is
 /// off hears nothing.
@@ -42,6 +44,26 @@ pub fn lpc_exchanges()
         IsPlain packet → length packet ≤ 256 → Send Lpc added packet heard → IsRun table added new → IsUndisturbed added →
         IsTrue (list_all is_wire_step added) → handled (core_of (settled table) awake) 256 packet ≡ Answered after result body →
         IsExchange (first_statuses table) packet (response_packet result body) after added heard new }
+{}
+
+/// An undisturbed send to a controller that is on is a whole transaction, of its packet and of the response that handling this
+/// gives, and leaves the bus at rest: from a bus that is at rest, and from any other, once the request that waits is served. From
+/// a bus at rest there is such a transaction.
+pub fn lpc_transactions()
+    ensures at_rest { (table : Table) (awake : Awake) (packet : List ℕ) (entries : List Entry) (heard : Heard) (new : Table)
+        (after : Core) (result : ℕ) (body : List ℕ) → Valid table → table.kind ≡ Lpc → table.power ≡ On awake →
+        IsTrue (is_at_rest awake.bus) → IsPlain packet → length packet ≤ 256 → Send Lpc entries packet heard →
+        IsRun table entries new → IsUndisturbed entries → handled (core_of table awake) 256 packet ≡ Answered after result body →
+        IsTransacted packet (response_packet result body) after entries new }
+    ensures settled { (table : Table) (awake : Awake) (packet : List ℕ) (entries : List Entry) (heard : Heard) (new : Table)
+        (after : Core) (result : ℕ) (body : List ℕ) → Valid table → table.kind ≡ Lpc → (settled table).power ≡ On awake →
+        IsPlain packet → length packet ≤ 256 → Send Lpc entries packet heard → IsRun table entries new →
+        IsUndisturbed entries → handled (core_of (settled table) awake) 256 packet ≡ Answered after result body →
+        IsTransacted packet (response_packet result body) after entries new }
+    ensures made { (table : Table) (awake : Awake) (packet : List ℕ) (after : Core) (result : ℕ) (body : List ℕ) →
+        Valid table → table.kind ≡ Lpc → table.power ≡ On awake → IsTrue (is_at_rest awake.bus) → IsPlain packet →
+        length packet ≤ 256 → handled (core_of table awake) 256 packet ≡ Answered after result body →
+        MakesTransaction packet (response_packet result body) after table }
 {}
 
 /// Where the bus of a controller that is on is brought to rest, and nothing disturbs that, the request that waits was
