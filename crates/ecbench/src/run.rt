@@ -30,7 +30,7 @@ pub enum Exit {
     #[error("the words are not the command's\nusage: ecbench FLASH < SCRIPT")]
     BadWords,
     /// The flash has none of the sizes that a controller's flash may have.
-    #[error("the flash has none of the sizes 65536, 131072, 262144, 524288 and 1048576 bytes")]
+    #[error("the flash has no size of 65536 bytes times 1, 2, 4, 8, 16, 32 or 64")]
     BadFlash,
     /// This line, counted from 1, is outside the grammar; those before it were carried out.
     #[error("line {line}: {why}")]

@@ -76,10 +76,10 @@ fn last_bits(bytes: &[u8]) -> AtBoot
 }
 
 // Whether nothing was written in a record's place.
-fn is_blank(record: &[u8]) -> bool
-    ensures { result ≡ is_blank record.now }
+fn is_blank(place: &[u8]) -> bool
+    ensures { result ≡ is_blank place.now }
 {
-    record.iter().all(|byte| *byte == 0xFF)
+    place.iter().all(|byte| *byte == 0xFF)
 }
 
 // The first place behind all that were written.
