@@ -18,7 +18,7 @@ use Rattle.ec_model.proofs.ValidStep.{row_of-short}
 use Rattle.ec_wire.specs.Quiet.{quiet_entry}
 use Rattle.host_runs.specs.Served.{IsPlain}
 use Rattle.host_runs.specs.Exchange.{lpc_exchange}
-use Rattle.host_runs.specs.Transaction.{MakesTransaction}
+use Rattle.host_runs.specs.Transaction.{MakesTransaction, lpc_transaction}
 use Rattle.host_runs.proofs.Response.{length-response, response-named, heard-response, eq-true, fits}
 use Rattle.host_runs.proofs.LpcLead.{lpc}
 use Rattle.host_runs.proofs.LpcSend.{as-table, core-valid, window-whole, regroup}
@@ -73,7 +73,7 @@ entries-send packet calls heard sent = (quiet-are-calls calls, subst (λ (made :
 
 -- there is an exchange from a bus that is not busy
 makes-at : (core after : Core) (window : List ℕ) (status outcome : ℕ) (packet : List ℕ) (result : ℕ) (body : List ℕ) → Valid (table_of core (lpc window status outcome)) → is_busy status ≡ false → IsPlain packet → length packet ≤ 256 → handled core 256 packet ≡ Answered after result body →
-    MakesTransaction packet (response_packet result body) after (table_of core (lpc window status outcome))
+    MakesTransaction Lpc packet (response_packet result body) after (table_of core (lpc window status outcome)) (lpc_exchange (status ∷ []) packet (response_packet result body))
 makes-at core after window status outcome packet result body valid idle plain short same =
     let reply = response_packet result body in
     let calls = lpc_exchange (status ∷ []) packet reply in
@@ -90,7 +90,7 @@ makes-at core after window status outcome packet result body valid idle plain sh
 
 -- the same by the bus of a table
 makes-by : (core after : Core) (bus : BusState) (packet : List ℕ) (result : ℕ) (body : List ℕ) → kind_of bus ≡ Lpc → Valid (table_of core bus) → is_at_rest bus ≡ true → IsPlain packet → length packet ≤ 256 → handled core 256 packet ≡ Answered after result body →
-    MakesTransaction packet (response_packet result body) after (table_of core bus)
+    MakesTransaction Lpc packet (response_packet result body) after (table_of core bus) (lpc_transaction packet (response_packet result body) (table_of core bus))
 makes-by core after (OnLpc state) packet result body kind valid rest plain short same =
     makes-at core after state.window state.status state.outcome packet result body valid (not-true (is_busy state.status) rest) plain short same
 makes-by core after (OnI2c state) packet result body kind valid rest plain short same = absurd (cc)
@@ -98,9 +98,9 @@ makes-by core after (OnSpi state) packet result body kind valid rest plain short
 
 -- there is an exchange from a valid table whose bus is at rest
 pub makes : (table : Table) (awake : Awake) (packet : List ℕ) (after : Core) (result : ℕ) (body : List ℕ) → Valid table → table.kind ≡ Lpc → table.power ≡ On awake → is_at_rest awake.bus ≡ true → IsPlain packet → length packet ≤ 256 → handled (core_of table awake) 256 packet ≡ Answered after result body →
-    MakesTransaction packet (response_packet result body) after table
+    MakesTransaction Lpc packet (response_packet result body) after table (lpc_transaction packet (response_packet result body) table)
 makes table awake packet after result body valid kind on rest plain short same =
     let awake_valid = rw on at valid.power in
     let placed = as-table table awake on awake_valid.bus_kind in
-    subst (λ (t : Table). MakesTransaction packet (response_packet result body) after t) (sym placed)
+    subst (λ (t : Table). MakesTransaction Lpc packet (response_packet result body) after t (lpc_transaction packet (response_packet result body) t)) (sym placed)
     (makes-by (core_of table awake) after awake.bus packet result body (awake_valid.bus_kind ∙ kind) (subst (λ (t : Table). Valid t) placed valid) rest plain short same)

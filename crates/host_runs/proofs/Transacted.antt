@@ -37,7 +37,7 @@ settled-at-rest table awake on rest = let none = none-waits awake.bus rest in rw
 
 -- an undisturbed send is a whole exchange
 pub settled-transacted : (table : Table) (awake : Awake) (packet : List ℕ) (entries : List Entry) (heard : Heard) (new : Table) (after : Core) (result : ℕ) (body : List ℕ) → Valid table → table.kind ≡ Lpc → (settled table).power ≡ On awake → IsPlain packet → length packet ≤ 256 →
-    Send Lpc entries packet heard → IsRun table entries new → IsUndisturbed entries → handled (core_of (settled table) awake) 256 packet ≡ Answered after result body → IsTransacted packet (response_packet result body) after entries new
+    Send Lpc entries packet heard → IsRun table entries new → IsUndisturbed entries → handled (core_of (settled table) awake) 256 packet ≡ Answered after result body → IsTransacted Lpc packet (response_packet result body) after entries new
 settled-transacted table awake packet entries heard new after result body valid kind on plain short sent run calm same =
     let exchanges = lpc-exchange table awake packet (calls_of entries) heard new after result body valid kind on plain short sent.1 (calm_lead table entries new calm run) same in
     record {
@@ -47,7 +47,7 @@ settled-transacted table awake packet entries heard new after result body valid 
 
 -- the same from a bus that is at rest
 pub transacted : (table : Table) (awake : Awake) (packet : List ℕ) (entries : List Entry) (heard : Heard) (new : Table) (after : Core) (result : ℕ) (body : List ℕ) → Valid table → table.kind ≡ Lpc → table.power ≡ On awake → is_at_rest awake.bus ≡ true → IsPlain packet → length packet ≤ 256 →
-    Send Lpc entries packet heard → IsRun table entries new → IsUndisturbed entries → handled (core_of table awake) 256 packet ≡ Answered after result body → IsTransacted packet (response_packet result body) after entries new
+    Send Lpc entries packet heard → IsRun table entries new → IsUndisturbed entries → handled (core_of table awake) 256 packet ≡ Answered after result body → IsTransacted Lpc packet (response_packet result body) after entries new
 transacted table awake packet entries heard new after result body valid kind on rest plain short sent run calm same =
     let settles = settled-at-rest table awake on rest in
     settled-transacted table awake packet entries heard new after result body valid kind (ap (λ (t : Table). t.power) settles ∙ on) plain short sent run calm

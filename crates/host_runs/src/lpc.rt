@@ -19,7 +19,7 @@ ghost use Rattle.host_runs.specs.Calm.{CallsLead};
 ghost use Rattle.host_runs.specs.Exchange.{first_statuses, Exchanges, IsExchange};
 ghost use Rattle.host_runs.specs.Resting.{Rests};
 ghost use Rattle.host_runs.specs.Served.{IsPlain, Serves, Settles};
-ghost use Rattle.host_runs.specs.Transaction.{IsTransacted, MakesTransaction};
+ghost use Rattle.host_runs.specs.Transaction.{IsTransacted, MakesTransaction, lpc_transaction};
 
 /// An undisturbed send to a controller that is on is served, once the request that waits is. One to a controller that is
 /// off hears nothing.
@@ -54,16 +54,17 @@ pub fn lpc_transactions()
         (after : Core) (result : ℕ) (body : List ℕ) → Valid table → table.kind ≡ Lpc → table.power ≡ On awake →
         IsTrue (is_at_rest awake.bus) → IsPlain packet → length packet ≤ 256 → Send Lpc entries packet heard →
         IsRun table entries new → IsUndisturbed entries → handled (core_of table awake) 256 packet ≡ Answered after result body →
-        IsTransacted packet (response_packet result body) after entries new }
+        IsTransacted Lpc packet (response_packet result body) after entries new }
     ensures settled { (table : Table) (awake : Awake) (packet : List ℕ) (entries : List Entry) (heard : Heard) (new : Table)
         (after : Core) (result : ℕ) (body : List ℕ) → Valid table → table.kind ≡ Lpc → (settled table).power ≡ On awake →
         IsPlain packet → length packet ≤ 256 → Send Lpc entries packet heard → IsRun table entries new →
         IsUndisturbed entries → handled (core_of (settled table) awake) 256 packet ≡ Answered after result body →
-        IsTransacted packet (response_packet result body) after entries new }
+        IsTransacted Lpc packet (response_packet result body) after entries new }
     ensures made { (table : Table) (awake : Awake) (packet : List ℕ) (after : Core) (result : ℕ) (body : List ℕ) →
         Valid table → table.kind ≡ Lpc → table.power ≡ On awake → IsTrue (is_at_rest awake.bus) → IsPlain packet →
         length packet ≤ 256 → handled (core_of table awake) 256 packet ≡ Answered after result body →
-        MakesTransaction packet (response_packet result body) after table }
+        MakesTransaction Lpc packet (response_packet result body) after table
+        (lpc_transaction packet (response_packet result body) table) }
 {}
 
 /// Where the bus of a controller that is on is brought to rest, and nothing disturbs that, the request that waits was
