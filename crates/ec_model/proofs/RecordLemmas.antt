@@ -52,8 +52,9 @@ gate-at p i flash =
 others-same : (p i j at n : ℕ) (old new : List ℕ) → Torn at n old new → p + 8 + 8 * i ≤ at → at + n ≤ p + 16 + 8 * i → (j < i) ⊎ (i < j) → slot j (drop p new) ≡ slot j (drop p old)
 others-same p i j at n old new torn from to other =
     slot-at p j new ∙ (elim other [
-      inl below ↦ torn-below 8 (p + 8 + 8 * j) at n old new torn (omega (arith, from, below))
-      | inr above ↦ torn-above 8 (p + 8 + 8 * j) at n old new torn (omega (arith, to, above)) ])
+      | inl below ↦ torn-below 8 (p + 8 + 8 * j) at n old new torn (omega (arith, from, below))
+      | inr above ↦ torn-above 8 (p + 8 + 8 * j) at n old new torn (omega (arith, to, above))
+    ])
     ∙ sym (slot-at p j old)
 
 -- bytes that are all blank
@@ -146,8 +147,9 @@ uncounted p old new roomy adds none =
     let free : is_counting (slot next (drop p old)) ≡ false = blank-counts (slot next (drop p old)) (later-none p old next roomy.inside (omega arith) is.below) in
     says-records (drop p new) adds.mark
     ∙ bits-same slot_count (drop p new) (drop p old) (λ j below. elim (order j next) [
-      inl same ↦ inr (ap (λ (n : ℕ). is_counting (slot n (drop p new))) same ∙ none, ap (λ (n : ℕ). is_counting (slot n (drop p old))) same ∙ free)
-      | inr other ↦ inl (adds.others j other) ])
+      | inl same ↦ inr (ap (λ (n : ℕ). is_counting (slot n (drop p new))) same ∙ none, ap (λ (n : ℕ). is_counting (slot n (drop p old))) same ∙ free)
+      | inr other ↦ inl (adds.others j other)
+    ])
     ∙ sym (says-records (drop p old) is.mark)
 
 -- and where it counts, it says what that record says
@@ -158,7 +160,7 @@ counted p old new roomy adds counts =
     let next : ℕ = next_slot (drop p old) in
     says-records (drop p new) adds.mark
     ∙ bits-below (suc next) slot_count (drop p new) (omega (arith, is.below)) (λ j least most.
-      blank-counts (slot j (drop p new)) (adds.others j (inr (omega (arith, least))) ∙ later-none p old j roomy.inside (omega (arith, least)) most))
+    blank-counts (slot j (drop p new)) (adds.others j (inr (omega (arith, least))) ∙ later-none p old j roomy.inside (omega (arith, least)) most))
     ∙ ap (λ (b : Bool). if b then bits_of_word (u32_at 0 (slot next (drop p new))) else bits_among next (drop p new)) counts
 
 -- a program changes just its range

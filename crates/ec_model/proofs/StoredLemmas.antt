@@ -32,10 +32,11 @@ SaysSame one other = (one ≡ other) ⊎ ((is_counting one ≡ false) × (is_cou
 says-same : (i : ℕ) (one other : List ℕ) → SaysSame (slot i one) (slot i other) → bits_among i one ≡ bits_among i other → bits_among (suc i) one ≡ bits_among (suc i) other
 says-same i one other same rest =
     elim same [
-    inl is ↦ ap (λ (s : List ℕ). if is_counting s then bits_of_word (u32_at 0 s) else bits_among i one) is
-        ∙ ap (λ (b : AtBoot). if is_counting (slot i other) then bits_of_word (u32_at 0 (slot i other)) else b) rest
-    | inr none ↦ ap (λ (b : Bool). if b then bits_of_word (u32_at 0 (slot i one)) else bits_among i one) none.0
-        ∙ rest ∙ ap (λ (b : Bool). if b then bits_of_word (u32_at 0 (slot i other)) else bits_among i other) (sym none.1) ]
+      | inl is ↦ ap (λ (s : List ℕ). if is_counting s then bits_of_word (u32_at 0 s) else bits_among i one) is
+          ∙ ap (λ (b : AtBoot). if is_counting (slot i other) then bits_of_word (u32_at 0 (slot i other)) else b) rest
+      | inr none ↦ ap (λ (b : Bool). if b then bits_of_word (u32_at 0 (slot i one)) else bits_among i one) none.0
+          ∙ rest ∙ ap (λ (b : Bool). if b then bits_of_word (u32_at 0 (slot i other)) else bits_among i other) (sym none.1)
+    ]
 
 -- blocks whose records say the same say the same
 pub bits-same : (count : ℕ) (one other : List ℕ) → ((i : ℕ) → i < count → SaysSame (slot i one) (slot i other)) → bits_among count one ≡ bits_among count other
@@ -53,11 +54,12 @@ last-or i count most = by (i == count) refl where
 pub bits-below : (from count : ℕ) (block : List ℕ) → from ≤ count → ((i : ℕ) → from ≤ i → i < count → is_counting (slot i block) ≡ false) → bits_among count block ≡ bits_among from block
 bits-below from zero block within none = let e : zero ≡ from = omega (arith, within) in ap (λ (n : ℕ). bits_among n block) e
 bits-below from (suc count) block within none = elim (last-or from (suc count) (omega (arith, within))) [
-    inl same ↦ ap (λ (n : ℕ). bits_among n block) (sym same)
-    | inr less ↦
-        let below : from ≤ count = omega (arith, less) in
-        ap (λ (b : Bool). if b then bits_of_word (u32_at 0 (slot count block)) else bits_among count block) (none count below (omega arith))
-        ∙ bits-below from count block below (λ i least most. none i least (omega (arith, most))) ]
+  | inl same ↦ ap (λ (n : ℕ). bits_among n block) (sym same)
+  | inr less ↦
+      let below : from ≤ count = omega (arith, less) in
+      ap (λ (b : Bool). if b then bits_of_word (u32_at 0 (slot count block)) else bits_among count block) (none count below (omega arith))
+      ∙ bits-below from count block below (λ i least most. none i least (omega (arith, most)))
+]
 
 -- the bits among the first records, in a front of the block that has them
 bits-take : (count m : ℕ) (block : List ℕ) → 8 + 8 * count ≤ m → bits_among count (take m block) ≡ bits_among count block
@@ -96,8 +98,9 @@ next-step : (written : Bool) (i count next : ℕ) (block : List ℕ) → is_blan
     (next ≤ i → i < count → is_blank (slot i block) ≡ true) → is_blank (slot i block) ≡ true
 next-step false i count next block blank least most rest = absurd (omega (arith, least, most))
 next-step true i count next block blank least most rest = elim (last-or i count most) [
-    inl same ↦ ap (λ (n : ℕ). is_blank (slot n block)) same ∙ blank
-    | inr below ↦ rest least below ]
+  | inl same ↦ ap (λ (n : ℕ). is_blank (slot n block)) same ∙ blank
+  | inr below ↦ rest least below
+]
 
 -- no place from the next one on was written
 pub next-blank : (count : ℕ) (block : List ℕ) (i : ℕ) → next_among count block ≤ i → i < count → is_blank (slot i block) ≡ true

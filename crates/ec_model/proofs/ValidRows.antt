@@ -217,9 +217,11 @@ jump-valid core target valid free =
       kept_hashable Idle nonce hashable = refl
       kept_hashable (Busy at size left) nonce hashable = refl
       kept_hashable (Done at size digest) nonce hashable = (hashable.0, hashable.1, hashable.2, refl)
+
       kept-valid : (all : Bool) (hash : HashView) (nonce : List ℕ) → IsHashable (length core.flash) hash nonce → IsHashable (length core.flash) (if all then kept_hash hash else Idle) []
       kept-valid true hash nonce hashable = kept_hashable hash nonce hashable
       kept-valid false hash nonce hashable = refl
+
       saved-valid : (all : Bool) (saved : ℕ) → saved < 2 ^ 16 → (if all then saved else 9) < 2 ^ 16
       saved-valid true saved small = small
       saved-valid false saved small = lit< tt

@@ -246,8 +246,10 @@ fn stored_bits_of_version_1_are_read_and_migrated(rt: HostRuntime) -> Result<(),
     let mut bytes = ERASED;
     bytes[0x7000..0x7008].copy_from_slice(b"PST1\x01\0\0\0");
     let flash = MemFlash::new(rt.alloc(), &bytes, &[])?;
-    let script = b"flashprotect\npin off\nreset pin\nflashprotect disable\nflashread 0x7000 16".as_slice();
-    let text = b"flags 0x0000000b valid 0x0000006f writable 0x00000004\nok\nok\nflags 0x00000000 valid 0x0000006f writable 0x00000041\n50535432000000000000000000000000\n".as_slice();
+    let script =
+        b"flashprotect\npin off\nreset pin\nflashprotect disable\nflashread 0x7000 16".as_slice();
+    let text =
+        b"flags 0x0000000b valid 0x0000006f writable 0x00000004\nok\nok\nflags 0x00000000 valid 0x0000006f writable 0x00000041\n50535432000000000000000000000000\n".as_slice();
     let _entries = plays(&rt, flash, script, (&[], &[]), (Exit::Done, text))?;
     Ok(())
 }

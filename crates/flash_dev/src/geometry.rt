@@ -58,7 +58,9 @@ impl Geometry {
         ensures size { IfSome result (λ geometry. geometry ≡ size) }
     {
         match size {
-            65536 | 131072 | 262144 | 524288 | 1048576 | 2097152 | 4194304 => Some(Geometry { size }),
+            65536 | 131072 | 262144 | 524288 | 1048576 | 2097152 | 4194304 => Some(Geometry {
+                size,
+            }),
             _ => None,
         }
     }
