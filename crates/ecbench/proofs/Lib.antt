@@ -3,6 +3,8 @@ pub mod Adding
 pub mod EventLemmas
 pub mod RawLemmas
 pub mod Undisturbed
+mod FollowLemmas
+mod Followed
 pub mod ServedLemmas
 pub mod ServedLines
 pub mod Powering

@@ -26,9 +26,11 @@ use Rattle.ectool_lines.proofs.AnswerLemmas.{Ready}
 use Rattle.ecbench.specs.declared.run.Exit.{Exit}
 use Rattle.ecbench.specs.declared.run.Exit.TheVariants.{Done, BadWords, BadFlash, BadLine, SourceFault, SinkFault, NoMemory, ScriptTooLong}
 use Rattle.ecbench.specs.Scripts.{PlaysUpTo}
-use Rattle.ecbench.specs.Endings.{power_on, IsStarted, Begins, NothingHappened, Ends, StartsOn, StartsBooted, seen, undisturbed}
+use Rattle.ecbench.specs.Endings.{power_on, IsStarted, Begins, NothingHappened, Ends, StartsOn, StartsBooted, StartsFrom, followed, seen, undisturbed}
 use Rattle.ecbench.specs.Serving.{DoesNothing, PowersAndServes, Drives}
 use Rattle.ecbench.proofs.Undisturbed.{upto-whole}
+use Rattle.ecbench.proofs.Followed.{upto-follows}
+use Rattle.ecbench.proofs.FollowLemmas.{run-ready}
 
 -- nothing was done, or power came and a script was served
 pub drives-either : (exit : Exit) (old new : WireView) (left rest before after : Option (List ℕ)) → Drives exit old new left rest before after → DoesNothing old new left rest before after ⊎ PowersAndServes exit old new left rest before after
@@ -190,3 +192,36 @@ pub drives-undisturbed : (held : Option (List ℕ)) (exit : Exit) (words : List 
 drives-undisturbed None exit words size old new left rest before after allowed started empty told no_fault no_cut drives = tt
 drives-undisturbed (Some bytes) exit words size old new left rest before after allowed started empty told no_fault no_cut drives =
     ends-drives (StartsBooted bytes) undisturbed exit words size old new left rest before after started empty drives (begins-undisturbed bytes exit old new left rest before after allowed empty told no_fault no_cut)
+
+-- the controller behind a power-on is ready, whatever failed in it
+boot-ready : (boot : Hurt) (bytes : List ℕ) (powered : Table) → is_flash_size (length bytes) ≡ true → IsStep (off_table bytes true Lpc) (power_on boot) powered → Ready true powered
+boot-ready Whole bytes powered allowed boots = run-ready false (off_table bytes true Lpc) (power_on Whole ∷ []) powered (record { valid = record { size = allowed; power = tt }; kind = refl; on_is = refl }) (powered, boots, refl)
+boot-ready Failed bytes powered allowed boots = run-ready false (off_table bytes true Lpc) (power_on Failed ∷ []) powered (record { valid = record { size = allowed; power = tt }; kind = refl; on_is = refl }) (powered, boots, refl)
+boot-ready Cut bytes powered allowed boots = absurd boots
+
+-- whatever befalls it
+begins-followed : (bytes : List ℕ) (exit : Exit) (old new : WireView) (left rest before after : Option (List ℕ)) → is_flash_size (length bytes) ≡ true → old.entries ≡ [] → old.table ≡ Some (off_table bytes true Lpc) →
+    PowersAndServes exit old new left rest before after → Begins (StartsFrom bytes) followed exit left rest before after new.entries
+begins-followed bytes exit old new left rest before after allowed empty told served =
+    let p = served.powers.adds.extends in
+    let own = served.serves.own in
+    let e = served.serves.extends in
+    let passed : Passes (off_table bytes true Lpc) served.powers.boot own =
+    passes (off_table bytes true Lpc) served.powers.boot own served.powered.table new.table (subst (λ (table : Option Table). RunsAlong (power_on served.powers.boot ∷ []) table served.powered.table) told p.run) e.run in
+    record {
+      boot = served.powers.boot;
+      opened = passed.powered;
+      own = own;
+      starts_so = passed.boots;
+      entries_are = begun-entries exit old new left rest before after empty served;
+      plays = upto-follows exit true passed.powered passed.last own left rest before after (boot-ready served.powers.boot bytes passed.powered allowed passed.boots)
+          (subst (λ (on : Bool). PlaysUpTo seen on exit own left rest before after) served.powers.on served.serves.plays) passed.runs;
+    }
+
+-- what each exit says, whatever befalls it
+pub drives-followed : (held : Option (List ℕ)) (exit : Exit) (words : List (List ℕ)) (size : ℕ) (old new : WireView) (left rest before after : Option (List ℕ)) → IfSome held (λ bytes. is_flash_size (length bytes) ≡ true) → IsStarted words size → old.entries ≡ [] →
+    old.table ≡ option_map (λ bytes. off_table bytes true Lpc) held → Drives exit old new left rest before after →
+    IfSome held (λ bytes. Ends (StartsFrom bytes) followed exit words size left rest before after new.entries)
+drives-followed None exit words size old new left rest before after allowed started empty told drives = tt
+drives-followed (Some bytes) exit words size old new left rest before after allowed started empty told drives =
+    ends-drives (StartsFrom bytes) followed exit words size old new left rest before after started empty drives (begins-followed bytes exit old new left rest before after allowed empty told)

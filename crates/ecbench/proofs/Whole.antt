@@ -15,9 +15,9 @@ use Rattle.ec_wire.specs.Journals.{JournalView}
 use Rattle.ec_core.specs.View.{EcView}
 use Rattle.bench_wire.specs.BenchView.{BenchView, wire_view}
 use Rattle.ecbench.specs.declared.run.Exit.{Exit}
-use Rattle.ecbench.specs.Endings.{IsStarted, EndsAsSeen, EndsUndisturbed, RunsTo, KeepsRo, GuardsRun, NothingFailed}
+use Rattle.ecbench.specs.Endings.{IsStarted, EndsAsSeen, EndsUndisturbed, EndsFollowed, RunsTo, KeepsRo, GuardsRun, NothingFailed}
 use Rattle.ecbench.specs.Serving.{Drives}
-use Rattle.ecbench.proofs.Powering.{Grew, drives-grew, drives-seen, drives-undisturbed}
+use Rattle.ecbench.proofs.Powering.{Grew, drives-grew, drives-seen, drives-undisturbed, drives-followed}
 
 -- a run from the flash as it came to the flash as it is
 pub runs-to : (entries : List Entry) (came left : Option (List ℕ)) (last : Option Table) → RunsAlong entries (option_map (λ bytes. off_table bytes true Lpc) came) last → option_map (λ table. table.flash) last ≡ left → RunsTo entries came left
@@ -139,6 +139,13 @@ run-undisturbed exit words came left bench after journal script rest before prin
     (drives-undisturbed came.held exit words came.extent (wire_view Lpc bench) (wire_view Lpc after) script rest before printed (told-allowed came.held came.extent whole started.sized) started opened.empty opened.table
     (λ rose. nothing.no_fault (subst (λ (device : DeviceView). Rose device.faults left.faults) opened.device (subst (λ (device : DeviceView). Rose bench.controller.device.faults device.faults) (sym hands.flash) rose)))
     (λ rose. nothing.no_cut (subst (λ (device : DeviceView). Rose device.cuts left.cuts) opened.device (subst (λ (device : DeviceView). Rose bench.controller.device.cuts device.cuts) (sym hands.flash) rose))) drives)
+
+-- what the exit says of each line, whatever befell the controller before it
+pub run-followed : (exit : Exit) (words : List (List ℕ)) (came left : DeviceView) (bench after : BenchView) (journal : JournalView) (script rest before printed : Option (List ℕ)) → ((bytes : List ℕ) → came.held ≡ Some bytes → length bytes ≡ came.extent) → IsStarted words came.extent →
+    Opens came bench → HandsBack after left journal → Drives exit (wire_view Lpc bench) (wire_view Lpc after) script rest before printed → IfSome came.held (λ bytes. EndsFollowed bytes exit words came.extent script rest before printed journal.entries)
+run-followed exit words came left bench after journal script rest before printed whole started opened hands drives =
+    subst (λ (entries : List Entry). IfSome came.held (λ bytes. EndsFollowed bytes exit words came.extent script rest before printed entries)) (sym (entries-of after left journal hands))
+    (drives-followed came.held exit words came.extent (wire_view Lpc bench) (wire_view Lpc after) script rest before printed (told-allowed came.held came.extent whole started.sized) started opened.empty opened.table drives)
 
 -- guarded RO is kept
 pub run-keeps : (exit : Exit) (came left : DeviceView) (bench after : BenchView) (journal : JournalView) (script rest before printed : Option (List ℕ)) → ((bytes : List ℕ) → came.held ≡ Some bytes → length bytes ≡ came.extent) → is_flash_size came.extent ≡ true → Opens came bench → HandsBack after left journal →

@@ -13,6 +13,8 @@ use Rattle.ec_model.specs.WholeStep.{stepped}
 use Rattle.ec_model.specs.declared.event.Event.{Event}
 use Rattle.ec_model.specs.Table.{Table}
 use Rattle.ec_model.specs.Run.{IsRun, opening}
+use Rattle.ec_model.specs.Step.{IsStep}
+use Rattle.ec_model.specs.Upset.{IsUndisturbed}
 use Rattle.ec_model.specs.Stored.{stored}
 use Rattle.ec_model.specs.Guarded.{KeepsPin, RunsGuarded, guarded_bytes}
 use Rattle.ec_model.specs.declared.event.Entry.{Entry}
@@ -26,6 +28,7 @@ use Rattle.host_runs.specs.Calm.{CallsLead}
 use Rattle.ectool_lines.specs.Running.{Appends}
 use Rattle.ectool_lines.specs.Asking.{Hears}
 use Rattle.ectool_lines.specs.Answering.{Answers}
+use Rattle.ectool_lines.specs.Following.{Follows}
 use Rattle.ecbench.specs.declared.run.Exit.{Exit}
 use Rattle.ecbench.specs.declared.run.Exit.TheVariants.{BadWords, BadFlash, NoMemory}
 use Rattle.ecbench.specs.Words.{are_words}
@@ -112,6 +115,28 @@ undisturbed = record { asks = Answers; happens = HappensWhole; makes = MakesWhol
 -- what each exit says, where nothing fails in a flash with these bytes
 abbrev pub EndsUndisturbed : List ℕ → Exit → List (List ℕ) → (size : ℕ) → (left rest before after : Option (List ℕ)) → List Entry → Type 0
 EndsUndisturbed flash = Ends (StartsBooted flash) undisturbed
+
+-- whatever befalls it: power comes to a controller with this flash
+abbrev pub StartsFrom : List ℕ → Hurt → Table → Type 0
+StartsFrom flash boot table = IsStep (opening flash true Lpc) (power_on boot) table
+
+-- whatever befalls it: an event is a step
+abbrev pub HappensSomehow : Table → Event → Hurt → Table → Type 0
+HappensSomehow old event hurt new = IsStep old (Step event 0 0 0 hurt) new
+
+-- whatever befalls it: the entries lead from one state to the other, and where nothing disturbed them, they are those of the calls
+pub record MakesSomehow (old : Table) (calls : List HostCall) (entries : List Entry) (new : Table) : Type 0 where
+  pub run : IsRun old entries new
+  pub makes : IsUndisturbed entries → MakesWhole old calls entries new
+
+-- a controller whose flash tells its bytes, whatever befalls it: each line goes as the definitions say from the state that it
+-- found, where nothing disturbed that line; and a command that is not answered has an upset among its own entries
+abbrev pub followed : Life Table
+followed = record { asks = Follows; happens = HappensSomehow; makes = MakesSomehow }
+
+-- what each exit says, on a flash with these bytes, whatever befalls it
+abbrev pub EndsFollowed : List ℕ → Exit → List (List ℕ) → (size : ℕ) → (left rest before after : Option (List ℕ)) → List Entry → Type 0
+EndsFollowed flash = Ends (StartsFrom flash) followed
 
 -- the flash counted neither a fault nor a cut
 pub record NothingFailed (old new : DeviceView) : Type 0 where

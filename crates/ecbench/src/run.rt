@@ -3,7 +3,7 @@ ghost use Rattle.std.specs.Prelude.{◌≡◌, [], IfSome, count_by};
 ghost use Rattle.flash_dev.specs.Counts.{Rose};
 ghost use Rattle.ec_model.specs.Upset.{is_cut_entry};
 ghost use Rattle.ec_wire.specs.Calls.{RoseBy, is_failed_entry};
-ghost use Rattle.ecbench.specs.Endings.{EndsAsSeen, EndsUndisturbed, RunsTo, KeepsRo, GuardsRun, NothingFailed};
+ghost use Rattle.ecbench.specs.Endings.{EndsAsSeen, EndsUndisturbed, EndsFollowed, RunsTo, KeepsRo, GuardsRun, NothingFailed};
 ghost use Rattle.ecbench.specs.Statuses.{exit_status};
 ghost use Rattle.ecbench.specs.Serving.{exit_of};
 
@@ -110,6 +110,10 @@ pub fn run<F: FlashDev, S: Source, K: Sink>(
     // Where nothing failed in the flash, and it tells its bytes: the same with each command handled and answered.
     ensures undisturbed { NothingFailed (F.seen flash) (F.seen result.flash) → IfSome (F.seen flash).held (λ bytes.
         EndsUndisturbed bytes result.exit words.now (F.seen flash).extent (S.left source.old) (S.left source.new) (K.written sink.old) (K.written sink.new) result.journal.entries) }
+    // The same of each line by itself, whatever befell the controller before it: where nothing disturbs the line, its commands are
+    // handled and answered from the state that it finds; and a command that is not answered has an upset among its entries.
+    ensures followed { IfSome (F.seen flash).held (λ bytes.
+        EndsFollowed bytes result.exit words.now (F.seen flash).extent (S.left source.old) (S.left source.new) (K.written sink.old) (K.written sink.new) result.journal.entries) }
     // A flash is handed back as it came where the run did not begin.
     ensures bad_words { result.exit ≡ Exit.BadWords → result.flash ≡ flash }
     ensures bad_flash { result.exit ≡ Exit.BadFlash → result.flash ≡ flash }

@@ -151,7 +151,7 @@ heard-by Off false table last asked entries ending after power off ready proper 
 heard-by (On first) false table last asked entries ending after power on ready proper hears run calm = cc
 heard-by Off true table last asked entries ending after power off ready proper hears run calm = cc
 
-heard : (on : Bool) (table last : Table) (asked : Asked) (entries : List Entry) (ending : Ending) (after : Bool) → Ready on table → IsProper asked → Hears Lpc on asked entries ending after → IsRun table entries last → IsUndisturbed entries → IsHeard table asked entries ending after last
+pub heard : (on : Bool) (table last : Table) (asked : Asked) (entries : List Entry) (ending : Ending) (after : Bool) → Ready on table → IsProper asked → Hears Lpc on asked entries ending after → IsRun table entries last → IsUndisturbed entries → IsHeard table asked entries ending after last
 heard on table last asked entries ending after ready proper hears run calm = heard-by table.power on table last asked entries ending after refl ready.on_is ready proper hears run calm
 
 -- each of some commands is proper
@@ -182,7 +182,7 @@ pub record EachAnswered (table : Table) (commands : List Asked) (entries : List 
   pub ready : Ready after last
 
 -- the proper ones before a command, and itself
-proper-split : (before : List Asked) (asked : Asked) (after : List Asked) → AreProper (before ++ asked ∷ after) → AreProper before × IsProper asked
+pub proper-split : (before : List Asked) (asked : Asked) (after : List Asked) → AreProper (before ++ asked ∷ after) → AreProper before × IsProper asked
 proper-split [] asked after proper = (tt, proper.0)
 proper-split (first ∷ before) asked after proper =
     let rest = proper-split before asked after proper.1 in

@@ -5,3 +5,4 @@ pub mod Asking
 pub mod Sending
 pub mod Running
 pub mod Answering
+pub mod Following

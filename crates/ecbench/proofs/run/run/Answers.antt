@@ -1,6 +1,6 @@
 use Rattle.std.proofs.Common.{◌≡◌, ap, sym, ◌∙◌, refl, true}
 use Rattle.flash_dev.specs.Ranges.{is_flash_size}
-use Rattle.ecbench.proofs.Whole.{runs-none, keeps-none, guarded-none, opens, run-ends, run-runs, run-keeps, run-guarded, run-faults, run-cuts, run-undisturbed}
+use Rattle.ecbench.proofs.Whole.{runs-none, keeps-none, guarded-none, opens, run-ends, run-runs, run-keeps, run-guarded, run-faults, run-cuts, run-undisturbed, run-followed}
 use Rattle.ecbench.proofs.run.run.Goals as goal
 
 pub returns-in_default-clause-run : goal.returns-in_default-clause-run
@@ -69,5 +69,12 @@ pub returns-clause-undisturbed : goal.returns-clause-undisturbed
 returns-clause-undisturbed g c =
     let allowed : is_flash_size (g.F.FlashDev.seen c.args.flash).extent ≡ true = ap is_flash_size (sym c.size.ensures) ∙ c.in-Some.ensures.allowed.0 refl in
     run-undisturbed _ _ _ _ c.new-bench.result c.drive-exit.new.bench _ _ _ _ _ (g.met.F.FlashDev.told_whole c.args.flash) (record { worded = sym c.are_words.ensures ∙ c.if-not-are_words.false; sized = allowed })
+    (opens _ _ _ c.new-bench.ensures c.new-2.ensures.table c.new-2.ensures.device)
+    (record { flash = c.finish-flash.ensures.flash; journal = c.finish-flash.ensures.journal; table = c.finish-flash.ensures.table }) c.drive-exit.ensures.drives
+
+pub returns-clause-followed : goal.returns-clause-followed
+returns-clause-followed g c =
+    let allowed : is_flash_size (g.F.FlashDev.seen c.args.flash).extent ≡ true = ap is_flash_size (sym c.size.ensures) ∙ c.in-Some.ensures.allowed.0 refl in
+    run-followed _ _ _ _ c.new-bench.result c.drive-exit.new.bench _ _ _ _ _ (g.met.F.FlashDev.told_whole c.args.flash) (record { worded = sym c.are_words.ensures ∙ c.if-not-are_words.false; sized = allowed })
     (opens _ _ _ c.new-bench.ensures c.new-2.ensures.table c.new-2.ensures.device)
     (record { flash = c.finish-flash.ensures.flash; journal = c.finish-flash.ensures.journal; table = c.finish-flash.ensures.table }) c.drive-exit.ensures.drives
