@@ -13,7 +13,7 @@ use bench_io::{FileFlash, StdSink, StdSource};
 use run::{Exit, run};
 use std::alloc::Global;
 use std::env::{self, Args};
-use std::fs::File;
+use std::fs::{self, File};
 use std::io;
 use std::process::ExitCode;
 use word::Word;
@@ -46,7 +46,10 @@ fn main(rt: HostRuntime) -> ExitCode {
     let mut source = StdSource::new(rt.reader());
     let mut sink = StdSink::new(io::writer(&rt));
     let ended = run(rt.alloc(), words.as_slice(), flash, &mut source, &mut sink);
-    told(&rt, ended.exit)
+    match ended.exit {
+        Exit::BadFlash => told_with_size(&rt, path, Exit::BadFlash),
+        exit => told(&rt, exit),
+    }
 }
 
 // The words behind the program's name.
@@ -80,5 +83,14 @@ fn told(rt: &HostRuntime, exit: Exit) -> ExitCode {
     if exit != Exit::Done {
         let _ = eprintln!(rt; "ecbench: {exit}");
     }
+    ExitCode::from(exit.status())
+}
+
+// The status of an exit for which the flash file's size is the cause: its path and size are told with it.
+fn told_with_size(rt: &HostRuntime, path: &str, exit: Exit) -> ExitCode {
+    let Ok(metadata) = fs::metadata(rt, path) else {
+        return told(rt, exit);
+    };
+    let _ = eprintln!(rt; "ecbench: {path} has {} bytes: {exit}", metadata.len());
     ExitCode::from(exit.status())
 }

@@ -56,6 +56,12 @@ impl FlashDev for Dying {
     ghost told_whole = { λ flash bytes same. untold_is_whole 65536 bytes same };
 }
 
+// Puts bytes over those of a flash of 64 KiB, where it stores its protection.
+fn store<R: Abort>(rt: &R, flash: &mut [u8], stored: &[u8; 8]) {
+    assert!(rt; flash.len() >= 0x7008);
+    flash[0x7000..0x7008].copy_from_slice(stored);
+}
+
 // Runs a script over this flash, where these calls of the source and of the sink fail, and looks at the exit and at the
 // text. Answers how many entries the journal has.
 fn plays<R: Abort + AllocGlobal, F: FlashDev + Drop>(
@@ -244,7 +250,7 @@ fn what_fails_is_told(rt: HostRuntime) -> Result<(), Fail> {
 #[test]
 fn stored_bits_of_version_1_are_read_and_migrated(rt: HostRuntime) -> Result<(), Fail> {
     let mut bytes = ERASED;
-    bytes[0x7000..0x7008].copy_from_slice(b"PST1\x01\0\0\0");
+    store(&rt, &mut bytes, b"PST1\x01\0\0\0");
     let flash = MemFlash::new(rt.alloc(), &bytes, &[])?;
     let script =
         b"flashprotect\npin off\nreset pin\nflashprotect disable\nflashread 0x7000 16".as_slice();

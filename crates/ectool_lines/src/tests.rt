@@ -25,6 +25,7 @@ fn lines_are_read(rt: HostRuntime) {
         Ok(Tool::FlashWrite { at, bytes }) => {
             assert_eq!(rt; at, 0x8000);
             let mut decoded = [0; 4];
+            assert_eq!(rt; bytes.len(), decoded.len());
             bytes.decode(0, &mut decoded);
             assert_eq!(rt; decoded, [0xF0, 0xF0, 0xF0, 0x0F]);
         }
@@ -63,6 +64,7 @@ fn questions_are_read(rt: HostRuntime) {
             assert_eq!(rt; ec_result, 16);
             assert_eq!(rt; ret_len, 4);
             let mut decoded = [0; 2];
+            assert_eq!(rt; bytes.len(), decoded.len());
             bytes.decode(0, &mut decoded);
             assert_eq!(rt; decoded, [10, 11]);
         }

@@ -57,6 +57,7 @@ fn ticks_and_ports_are_read(rt: HostRuntime) {
         match parse(line) {
             Ok(Line::PortsOut { port, bytes }) => {
                 let mut decoded = [0; 2];
+                assert_eq!(rt; bytes.len(), decoded.len());
                 bytes.decode(0, &mut decoded);
                 assert_eq!(rt; (port, decoded), want);
             }
