@@ -1,5 +1,5 @@
 -- What contracts see of a flash over a file.
-use Rattle.std.specs.Prelude.{◌≡◌, ◌⊎◌, ℕ, List, length, Some, IsTrue}
+use Rattle.std.specs.Prelude.{◌≡◌, ◌⊎◌, ℕ, List, length, Some, None, IsTrue}
 use Rattle.flash_dev.specs.Device.{DeviceView}
 use Rattle.flash_dev.specs.Ranges.{is_flash_size}
 
@@ -10,14 +10,17 @@ pub record FileState : Type 0 where
   pub wear : ℕ
   pub fetched : ℕ
 
--- the same as a device: the bytes are told, and power is never lost
+-- the same as a device: the bytes are told, each operation that is begun is wear, and power is never lost
 abbrev pub file_device : FileState → DeviceView
 file_device file = record {
   held = Some file.bytes;
   extent = length file.bytes;
   faults = file.faults;
   cuts = 0;
+  own_cuts = 0;
   refusals = file.faults;
+  begun = file.wear;
+  armed = None;
   wear = file.wear;
   fetched = file.fetched;
 }

@@ -1,8 +1,8 @@
 // A flash over a file. Its bytes are read once, and held; what is written goes to the file first.
-ghost use Rattle.std.specs.Prelude.{◌≡◌, ◌≤◌, ◌<◌, ◌+◌, ◌*◌, ◌%◌, ◌^◌, length, replicate, slice_range, IsOk, IfOk, OnOk};
+ghost use Rattle.std.specs.Prelude.{◌≡◌, ◌≤◌, ◌<◌, ◌+◌, ◌*◌, ◌%◌, ◌^◌, is_err, if◌then◌else◌, length, replicate, slice_range, IsOk, IfOk, IfErr, OnOk};
 ghost use Rattle.flash_dev.specs.Flash.{and_bytes, overwritten, programmed, erased, block_size, Torn};
 ghost use Rattle.flash_dev.specs.Counts.{HasFaults, raised_by};
-ghost use Rattle.flash_dev.specs.Device.{IsRead, IsChange};
+ghost use Rattle.flash_dev.specs.Device.{IsRead};
 ghost use Rattle.flash_dev.specs.Told.{told_is_whole};
 ghost use Rattle.bench_io.specs.Files.{IsSized, file_device};
 
@@ -57,7 +57,16 @@ impl<T: Read + Write + Seek> FileFlash<T> {
     // Writes a range, and counts that.
     fn store(&mut self, at: usize, bytes: &[u8]) -> Result<(), DevErr>
         requires { at + length bytes.now ≤ length self.old.bytes }
-        ensures change { IsChange at (length bytes.now) (overwritten at bytes.now) (file_device self.old) (file_device self.new) result }
+        ensures done { OnOk result (self.new.bytes ≡ overwritten at bytes.now self.old.bytes) }
+        ensures outside { Torn at (length bytes.now) self.old.bytes self.new.bytes }
+        ensures failed { IfErr result (λ error. error ≡ DevErr.Failed) }
+        ensures later { self.old.faults ≤ self.new.faults }
+        ensures counts { self.new ≡ record {
+          bytes = self.new.bytes;
+          faults = if is_err result then raised_by 1 self.old.faults else self.old.faults;
+          wear = raised_by 1 self.old.wear;
+          fetched = self.old.fetched;
+        } }
     {
         self.wear = self.wear.saturating_add(1);
         match write_through(&mut self.file, &mut self.bytes, at, bytes) {

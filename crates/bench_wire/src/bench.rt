@@ -36,7 +36,7 @@ impl<B: Bus + Drop, F: FlashDev> Model for Bench<B, F> {
 
 impl<B: Bus + Drop, F: FlashDev> Bench<B, F> {
     ghost use Rattle.std.specs.Prelude.{◌≤◌, IfSome, IsTrue};
-    ghost use Rattle.ec_model.specs.declared.event.Hurt.TheVariants.{Cut};
+    ghost use Rattle.flash_dev.specs.declared.hurt.Hurt.TheVariants.{Cut};
     ghost use Rattle.ec_wire.specs.Calls.{Agrees};
     ghost use Rattle.ec_core.specs.Held.{IsSilent};
     ghost use Rattle.bench_wire.specs.BenchView.{wire_view};

@@ -2,8 +2,8 @@
 use Rattle.std.proofs.Common.{◌≡◌, refl, subst, ℕ, true, List, length, inl, inr, Option, Some, None, Ok}
 use Rattle.std.specs.Prelude.{option_map, IfSome, ◌⊎◌, IsTrue}
 use Rattle.flash_dev.specs.Told.{Changes}
-use Rattle.ec_model.specs.declared.event.Hurt.{Hurt}
-use Rattle.ec_model.specs.declared.event.Hurt.TheVariants.{Whole, Failed, Cut}
+use Rattle.flash_dev.specs.declared.hurt.Hurt.{Hurt}
+use Rattle.flash_dev.specs.declared.hurt.Hurt.TheVariants.{Whole, Failed, Cut}
 use Rattle.ec_model.specs.Ranges.{is_flash_size}
 use Rattle.ec_model.specs.Bus.{fresh_bus}
 use Rattle.ec_model.specs.Packet.{RequestView}
@@ -14,34 +14,40 @@ use Rattle.ec_model.proofs.GuardRows.{Keeps, KeepsOutcome, keeps-self}
 use Rattle.ec_model.proofs.GuardStep.{row_of-keeps}
 use Rattle.ec_model.proofs.GuardWork.{spelled_by, operations_by-above}
 use Rattle.ec_boot.specs.States.{RunView, OffView, core_at, told_core, Follows}
-use Rattle.ec_boot.specs.Ran.{IsStopped}
+use Rattle.flash_dev.specs.View.{DeviceView}
+use Rattle.ec_boot.specs.Ran.{IsStopped, ReadFailed}
 use Rattle.ec_boot.specs.Guarding.{KeepsGuard, LowersGuard}
 use Rattle.ec_boot.proofs.KeepLemmas.{stopped-keeps, guard-told}
 use Rattle.command_table.specs.Leaves.{FoundLeaves, HasReply}
+use Rattle.command_table.specs.After.{Finds, IsAnswered, run_of}
+use Rattle.command_table.specs.declared.table.Awake.{Awake}
+use Rattle.command_table.specs.declared.table.Awake.TheVariants.{Ro as AwakeRo}
+use Rattle.command_table.specs.declared.table.After.{After}
 
 -- what is admitted is spelled
 spelled-of : (core : Core) (request : RequestView) (found : Admitted) → admitted core request ≡ Ok found → is_spelled found.command found.version found.body ≡ true
 spelled-of core request found same = spelled_by core request (line_of request.command) found same
 
-stopped-by : (core after : Core) (request : RequestView) → IsStopped (operations_by core (admitted core request)) core after → Keeps core after
-stopped-by core after request stopped =
-    stopped-keeps (operations_by core (admitted core request)) core after (λ locked. operations_by-above core (admitted core request) locked (spelled-of core request)) stopped
+stopped-by : (hurt : Hurt) (device changed : DeviceView) (core after : Core) (request : RequestView) → IsStopped hurt (operations_by core (admitted core request)) device changed core after → Keeps core after
+stopped-by hurt device changed core after request stopped =
+    stopped-keeps hurt (operations_by core (admitted core request)) device changed core after (λ locked. operations_by-above core (admitted core request) locked (spelled-of core request)) stopped
 
 -- what a request leaves keeps the guard
-found-keeps : (hurt : Hurt) (limit : ℕ) (request : RequestView) (status : ℕ) (body : List ℕ) (core after : Core) → FoundLeaves (admitted core request) hurt limit core after status body → Keeps core after
-found-keeps Whole limit request status body core after same =
-    subst (KeepsOutcome core) same (row_of-keeps core limit (admitted core request) (spelled-of core request))
-found-keeps Failed limit request status body core after failed = by failed.what where
-  by : (IsTrue (reads_by core limit (admitted core request)) × HasReply (row_of core limit (admitted core request)) × (after ≡ core)) ⊎ IsStopped (operations_by core (admitted core request)) core after → Keeps core after
-  by (inl read) = rw read.2 (keeps-self core)
-  by (inr stopped) = stopped-by core after request stopped
-found-keeps Cut limit request status body core after stopped = stopped-by core after request stopped
+found-keeps : (hurt : Hurt) (limit : ℕ) (request : RequestView) (status : ℕ) (body : List ℕ) (device changed : DeviceView) (core after : Core) → FoundLeaves (admitted core request) hurt limit device changed core after status body → Keeps core after
+found-keeps Whole limit request status body device changed core after same =
+    subst (KeepsOutcome core) same.0 (row_of-keeps core limit (admitted core request) (spelled-of core request))
+found-keeps Failed limit request status body device changed core after failed = by failed.what where
+  by : (IsTrue (reads_by core limit (admitted core request)) × HasReply (row_of core limit (admitted core request)) × ReadFailed (operations_by core (admitted core request)) device changed core after)
+      ⊎ IsStopped Failed (operations_by core (admitted core request)) device changed core after → Keeps core after
+  by (inl read) = rw read.2.0 (keeps-self core)
+  by (inr stopped) = stopped-by Failed device changed core after request stopped
+found-keeps Cut limit request status body device changed core after stopped = stopped-by Cut device changed core after request stopped
 
 pub answer-guard : (size : ℕ) (hurt : Hurt) (limit : ℕ) (request : RequestView) (status : ℕ) (body : List ℕ) (old new : RunView) → is_flash_size size ≡ true → IfSome old.device.held (λ flash. length flash ≡ size) →
-    Changes (λ before after. FoundLeaves (admitted before request) hurt limit before after status body) (told_core old) (told_core new) → Changes KeepsGuard (told_core old) (told_core new)
+    Changes (λ before after. FoundLeaves (admitted before request) hurt limit old.device new.device before after status body) (told_core old) (told_core new) → Changes KeepsGuard (told_core old) (told_core new)
 answer-guard size hurt limit request status body old new allowed sized told =
-    guard-told size (λ before after. FoundLeaves (admitted before request) hurt limit before after status body) old new allowed sized
-    (λ before after leaves. found-keeps hurt limit request status body before after leaves) told
+    guard-told size (λ before after. FoundLeaves (admitted before request) hurt limit old.device new.device before after status body) old new allowed sized
+    (λ before after leaves. found-keeps hurt limit request status body old.device new.device before after leaves) told
 
 -- the same where power was lost behind it
 pub lost-guard : (old new : RunView) (off : OffView) → new.pin ≡ old.pin → off.device ≡ new.device → Changes KeepsGuard (told_core old) (told_core new) → Follows LowersGuard (told_core old) off.device.held
@@ -55,3 +61,8 @@ lost-guard old new off pin same told = rw same (by old.device.held new.device.he
         guarded = λ guarded kind. let is = told.guarded guarded (fresh_bus kind) in record { pin = (guarded (fresh_bus kind)).pin; stored = is.stored; locked = refl };
         bytes = told.bytes;
       }
+
+-- what an answer makes of the one image that runs is what it makes of the state
+pub answered-by : {F G : Type 0} (limit : ℕ) (finds : Finds) (hurt : Hurt) (status : ℕ) (body : List ℕ) (state : Awake G) (on : RunView) (after : After F) → state ≡ AwakeRo on
+    → IsAnswered limit finds hurt status body on after → IsAnswered limit finds hurt status body (run_of state) after
+answered-by limit finds hurt status body state on after is answered = rw is answered

@@ -17,7 +17,7 @@ const IN_PROGRESS: u16 = 8;
 /// FLASH_ERASE: the erase is pending, and the ticks do it.
 pub fn flash_erase<R: Running>(state: &mut R, at: u32, count: u32, reply: &mut Reply)
     requires { (R.run state.old).live.erase ≡ None }
-    ensures leaves { Changes (λ before after. Leaves reply.new.hurt (flash_erase_row before (flash_erase_ask at count)) false [] before after reply.new.status reply.new.body)
+    ensures leaves { Changes (λ before after. Leaves reply.new.hurt (flash_erase_row before (flash_erase_ask at count)) false [] (R.run state.old).device (R.run state.new).device before after reply.new.status reply.new.body)
         (told_core (R.run state.old)) (told_core (R.run state.new)) }
     ensures device { KeepsDevice reply.new.hurt (R.run state.old) (R.run state.new) }
     ensures short { length reply.new.body ≡ 0 }
@@ -35,7 +35,7 @@ pub fn flash_erase<R: Running>(state: &mut R, at: u32, count: u32, reply: &mut R
 
 /// RESEND_RESPONSE: the status of an erase that ended is given once.
 pub fn resend<R: Running>(state: &mut R, reply: &mut Reply)
-    ensures leaves { Changes (λ before after. Leaves reply.new.hurt (resend_row before) false [] before after reply.new.status reply.new.body)
+    ensures leaves { Changes (λ before after. Leaves reply.new.hurt (resend_row before) false [] (R.run state.old).device (R.run state.new).device before after reply.new.status reply.new.body)
         (told_core (R.run state.old)) (told_core (R.run state.new)) }
     ensures device { KeepsDevice reply.new.hurt (R.run state.old) (R.run state.new) }
     ensures short { length reply.new.body ≡ 0 }

@@ -1,6 +1,6 @@
 // The commands that only ask.
 ghost use Rattle.std.specs.Prelude.{◌≡◌, ◌≤◌, length, is_some};
-ghost use Rattle.ec_model.specs.declared.event.Hurt.TheVariants.{Whole};
+ghost use Rattle.flash_dev.specs.declared.hurt.Hurt.TheVariants.{Whole};
 ghost use Rattle.ec_model.specs.Table.{Core};
 ghost use Rattle.ec_model.specs.Bodies.{hello_ask, test_ask, region_info_ask};
 ghost use Rattle.ec_model.specs.Answer.{Answered};

@@ -1,6 +1,6 @@
 // Replies.
 ghost use Rattle.std.specs.Prelude.{◌≡◌, []};
-ghost use Rattle.ec_model.specs.declared.event.Hurt.TheVariants.{Whole};
+ghost use Rattle.flash_dev.specs.declared.hurt.Hurt.TheVariants.{Whole};
 ghost use Rattle.command_table.specs.Leaves.{end_status};
 
 use ec_model::Hurt;

@@ -6,7 +6,10 @@ use Rattle.std.proofs.lemmas.Bool.Decides.{nat_tests}
 use Rattle.flash_dev.specs.Flash.{Torn}
 use Rattle.flash_dev.specs.Told.{Changes}
 use Rattle.flash_dev.specs.declared.device.DevErr.{DevErr}
-use Rattle.flash_dev.specs.declared.device.DevErr.TheVariants.{Failed, PowerLost}
+use Rattle.flash_dev.specs.declared.device.DevErr.TheVariants.{Failed as FailedErr, PowerLost}
+use Rattle.flash_dev.specs.declared.hurt.Hurt.{Hurt}
+use Rattle.flash_dev.specs.declared.hurt.Hurt.TheVariants.{Failed, Cut}
+use Rattle.flash_dev.specs.View.{DeviceView}
 use Rattle.flash_ctl.specs.declared.CtlErr.{CtlErr}
 use Rattle.flash_ctl.specs.declared.CtlErr.TheVariants.{Locked, Device}
 use Rattle.ec_types.specs.declared.bus.BusKind.TheVariants.{Lpc}
@@ -19,7 +22,7 @@ use Rattle.ec_model.specs.Bus.{fresh_bus}
 use Rattle.ec_model.specs.Table.{Core}
 use Rattle.ec_model.specs.Hash.{touched}
 use Rattle.ec_model.specs.Boot.{booted}
-use Rattle.ec_model.specs.Operations.{Operation}
+use Rattle.ec_model.specs.Operations.{Operation, operation_range}
 use Rattle.ec_model.specs.ProtectRow.{protect_operations}
 use Rattle.ec_model.proofs.GuardLemmas.{Leaves, AllAbove, leaves-stopped}
 use Rattle.ec_model.proofs.GuardRows.{Keeps, keeps-self, same-touched, same-touched_by, protect-keeps}
@@ -45,9 +48,9 @@ keeps-guard before after allowed keeps =
     }
 
 -- an operation that did not end keeps them, where all operations are above them while RO is locked
-pub stopped-keeps : (operations : List Operation) (before after : Core) → (before.live.ro_now ≡ true → AllAbove (length before.flash / 2) (length before.flash) operations) →
-    IsStopped operations before after → Keeps before after
-stopped-keeps operations before after above stopped =
+pub stopped-keeps : (hurt : Hurt) (operations : List Operation) (device changed : DeviceView) (before after : Core) → (before.live.ro_now ≡ true → AllAbove (length before.flash / 2) (length before.flash) operations) →
+    IsStopped hurt operations device changed before after → Keeps before after
+stopped-keeps hurt operations device changed before after above stopped =
     let same = same-touched_by (take (suc stopped.place) operations) before in
     record {
       pin = ap (λ (c : Core). c.pin) stopped.leaves ∙ same.pin;
@@ -56,11 +59,13 @@ stopped-keeps operations before after above stopped =
     }
 
 -- FLASH_PROTECT
-protected-keeps : (mask flags : ℕ) (before after : Core) (result : Result ProtectView DevErr) → IsProtected mask flags before after result → Keeps before after
-protected-keeps mask flags before after (Ok view) done = rw done.0 (protect-keeps before mask flags)
-protected-keeps mask flags before after (Err Failed) (inl same) = rw same (keeps-self before)
-protected-keeps mask flags before after (Err Failed) (inr stopped) = stopped-keeps (protect_operations before mask flags) before after (protect-above before mask flags) stopped
-protected-keeps mask flags before after (Err PowerLost) stopped = stopped-keeps (protect_operations before mask flags) before after (protect-above before mask flags) stopped
+protected-keeps : (mask flags : ℕ) (device changed : DeviceView) (before after : Core) (result : Result ProtectView DevErr) → IsProtected mask flags device changed before after result → Keeps before after
+protected-keeps mask flags device changed before after (Ok view) done = rw done.0 (protect-keeps before mask flags)
+protected-keeps mask flags device changed before after (Err FailedErr) (inl same) = rw same.0 (keeps-self before)
+protected-keeps mask flags device changed before after (Err FailedErr) (inr stopped) =
+    stopped-keeps Failed (protect_operations before mask flags) device changed before after (protect-above before mask flags) stopped
+protected-keeps mask flags device changed before after (Err PowerLost) stopped =
+    stopped-keeps Cut (protect_operations before mask flags) device changed before after (protect-above before mask flags) stopped
 
 -- a range that no lock covers, while RO is locked, is above what is guarded
 free-above : (size at n : ℕ) (all : Bool) → 1 ≤ n → ((true && overlaps (record { at = at; size = n }) (wp_ro_range size)) || all) ≡ false → size / 2 ≤ at
@@ -94,9 +99,10 @@ guard-told size R old new allowed sized keeps told = by old.device.held new.devi
   by (Some f) (Some g) here told = keeps-guard (core_at old f) (core_at new g) (rw here allowed) (keeps (core_at old f) (core_at new g) told)
 
 pub protect-guard : (size mask flags : ℕ) (old new : RunView) (result : Result ProtectView DevErr) → is_flash_size size ≡ true → IfSome old.device.held (λ flash. length flash ≡ size) →
-    Changes (λ before after. IsProtected mask flags before after result) (told_core old) (told_core new) → Changes KeepsGuard (told_core old) (told_core new)
+    Changes (λ before after. IsProtected mask flags old.device new.device before after result) (told_core old) (told_core new) → Changes KeepsGuard (told_core old) (told_core new)
 protect-guard size mask flags old new result allowed sized told =
-    guard-told size (λ before after. IsProtected mask flags before after result) old new allowed sized (λ before after done. protected-keeps mask flags before after result done) told
+    guard-told size (λ before after. IsProtected mask flags old.device new.device before after result) old new allowed sized
+    (λ before after done. protected-keeps mask flags old.device new.device before after result done) told
 
 -- nothing changed but counts
 pub guard-same : (old new : RunView) → told_core new ≡ told_core old → Changes KeepsGuard (told_core old) (told_core new)
@@ -105,23 +111,23 @@ guard-same old new same = rw same (by (told_core old)) where
   by None = tt
   by (Some core) = record { guarded = λ guarded. guarded; bytes = λ guarded. refl }
 
-operated-guard : {T : Type 0} (at n size : ℕ) (made : List ℕ → List ℕ) (old new : RunView) (result : Result T DevErr) → is_flash_size size ≡ true → size ≡ old.device.extent → IfSome old.device.held (λ flash. length flash ≡ size) → 1 ≤ n →
-    IsFalse (is_lock_blocked old.device.extent old.live (record { at = at; size = n })) → IsDone at n made old new result → Changes KeepsGuard (told_core old) (told_core new)
-operated-guard {T} at n size made old new result allowed same sized some free done = by old.device.held new.device.held sized done.change.outside where
-  by : (o p : Option (List ℕ)) → IfSome o (λ flash. length flash ≡ size) → Changes (Torn at n) o p → Changes KeepsGuard (option_map (core_at old) o) (option_map (core_at new) p)
+operated-guard : {T : Type 0} (operation : Operation) (size : ℕ) (old new : RunView) (result : Result T DevErr) → is_flash_size size ≡ true → size ≡ old.device.extent → IfSome old.device.held (λ flash. length flash ≡ size) → 1 ≤ (operation_range operation).size →
+    IsFalse (is_lock_blocked old.device.extent old.live (operation_range operation)) → IsDone operation old new result → Changes KeepsGuard (told_core old) (told_core new)
+operated-guard {T} operation size old new result allowed same sized some free done = by old.device.held new.device.held sized done.change.outside where
+  by : (o p : Option (List ℕ)) → IfSome o (λ flash. length flash ≡ size) → Changes (Torn (operation_range operation).at (operation_range operation).size) o p → Changes KeepsGuard (option_map (core_at old) o) (option_map (core_at new) p)
   by None None here torn = tt
   by None (Some g) here torn = torn
   by (Some f) None here torn = torn
   by (Some f) (Some g) here torn =
       keeps-guard (core_at old f) (core_at new g) (rw here allowed)
-      (done-keeps at n (core_at old f) (core_at new g) g some torn (done.rest g) (rw (here ∙ same) free))
+      (done-keeps (operation_range operation).at (operation_range operation).size (core_at old f) (core_at new g) g some torn (done.rest g) (rw (here ∙ same) free))
 
--- a change of a range, refused or not
-pub change-guard : {T : Type 0} (at n size : ℕ) (made : List ℕ → List ℕ) (old new : RunView) (result : Result T CtlErr) → is_flash_size size ≡ true → size ≡ old.device.extent → IfSome old.device.held (λ flash. length flash ≡ size) → 1 ≤ n →
-    IsOperated at n made old new result → Changes KeepsGuard (told_core old) (told_core new)
-change-guard {T} at n size made old new (Ok x) allowed same sized some operated = operated-guard {T = T} at n size made old new (Ok x) allowed same sized some operated.0 operated.1
-change-guard at n size made old new (Err Locked) allowed same sized some operated = guard-same old new (ap told_core operated.1)
-change-guard {T} at n size made old new (Err (Device error)) allowed same sized some operated = operated-guard {T = T} at n size made old new (Err error) allowed same sized some operated.0 operated.1
+-- an operation, refused or not
+pub change-guard : {T : Type 0} (operation : Operation) (size : ℕ) (old new : RunView) (result : Result T CtlErr) → is_flash_size size ≡ true → size ≡ old.device.extent → IfSome old.device.held (λ flash. length flash ≡ size) → 1 ≤ (operation_range operation).size →
+    IsOperated operation old new result → Changes KeepsGuard (told_core old) (told_core new)
+change-guard {T} operation size old new (Ok x) allowed same sized some operated = operated-guard {T = T} operation size old new (Ok x) allowed same sized some operated.0 operated.1
+change-guard operation size old new (Err Locked) allowed same sized some operated = guard-same old new (ap told_core operated.1)
+change-guard {T} operation size old new (Err (Device error)) allowed same sized some operated = operated-guard {T = T} operation size old new (Err error) allowed same sized some operated.0 operated.1
 
 or-true : (a b : Bool) → a ≡ true → (a || b) ≡ true
 or-true a b holds = rw holds refl

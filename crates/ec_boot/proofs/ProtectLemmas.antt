@@ -1,23 +1,25 @@
 -- What FLASH_PROTECT does to a controller that is on and shows no hash.
-use Rattle.std.proofs.Common.{◌≡◌, refl, sym, ap, ◌∙◌, subst, ℕ, suc, Bool, true, false, ◌&&◌, ◌||◌, if◌then◌else◌, List, [], ◌∷◌, take, length, slice_get, arith, inl, inr, Option, Some, None, Result, Ok, Err}
-use Rattle.std.specs.Prelude.{option_map, IfSome}
+use Rattle.std.proofs.Common.{◌≡◌, refl, sym, ap, ◌∙◌, ℕ, suc, Bool, true, false, ◌&&◌, ◌||◌, if◌then◌else◌, List, [], ◌∷◌, take, inl, inr, Option, Some, None, Result, Ok, Err}
+use Rattle.std.specs.Prelude.{option_map}
 use Rattle.flash_dev.specs.Told.{Changes}
 use Rattle.flash_dev.specs.declared.device.DevErr.{DevErr}
-use Rattle.flash_dev.specs.declared.device.DevErr.TheVariants.{Failed, PowerLost}
+use Rattle.flash_dev.specs.declared.device.DevErr.TheVariants.{Failed as FailedErr, PowerLost}
+use Rattle.flash_dev.specs.declared.hurt.Hurt.{Hurt}
+use Rattle.flash_dev.specs.declared.hurt.Hurt.TheVariants.{Failed, Cut}
+use Rattle.flash_dev.specs.View.{DeviceView}
 use Rattle.flash_ctl.specs.Locks.{CtlView}
 use Rattle.ec_model.specs.declared.live.HashView.TheVariants.{Idle}
 use Rattle.ec_model.specs.declared.live.Live.{Live}
 use Rattle.ec_model.specs.declared.live.ProtectView.{ProtectView}
-use Rattle.ec_model.specs.Stored.{stored, same_bits, ro_now_flag, all_now_flag}
+use Rattle.ec_model.specs.Stored.{stored, ro_now_flag, all_now_flag}
 use Rattle.ec_model.specs.Table.{Core}
 use Rattle.ec_model.specs.Hash.{is_hash_over, without_hash}
 use Rattle.ec_model.specs.Operations.{Operation, operation_range, operated_all, touched_by}
-use Rattle.ec_model.specs.ProtectRow.{protect_operations, protect_view, protected, locks_set, is_asked, wanted, storing_operations}
+use Rattle.ec_model.specs.ProtectRow.{protect_operations, protect_view, protected, locks_set, is_asked}
 use Rattle.flash_protect.specs.declared.protect.Protect.{Protect}
-use Rattle.ec_model.specs.Spent.{RisesAtMost}
 use Rattle.flash_protect.specs.Setting.{Sets, IsStoppedIn, core_with}
 use Rattle.ec_boot.specs.States.{core_at, told_core}
-use Rattle.ec_boot.specs.Ran.{IsStopped, IsProtected, WearsAtMost}
+use Rattle.ec_boot.specs.Ran.{IsStopped, IsProtected}
 use Rattle.ec_boot.proofs.OperatedLemmas.{run_of}
 
 -- where no hash is shown, operations drop none
@@ -74,15 +76,16 @@ lift-done mask flags pin live f g new idle same =
     ∙ ap (λ (c : Core). locks_set mask flags (record c { flash = flash })) (sym (untouched_by operations core idle))
 
 -- an operation of FLASH_PROTECT did not end
-lift-stopped : (mask flags : ℕ) (pin : Bool) (live : Live) (f g : List ℕ) (new : Protect) (range : ℕ × ℕ) → live.hash ≡ Idle →
-    IsStoppedIn mask flags pin (protect_of live) f new g range →
-    IsStopped (protect_operations (made pin live f live.ro_now live.all_now) mask flags) (made pin live f live.ro_now live.all_now) (made pin live g new.ro_now new.all_now)
-lift-stopped mask flags pin live f g new range idle stopped =
+lift-stopped : (hurt : Hurt) (mask flags : ℕ) (pin : Bool) (live : Live) (device changed : DeviceView) (f g : List ℕ) (new : Protect) (range : ℕ × ℕ) → live.hash ≡ Idle →
+    IsStoppedIn hurt mask flags pin device changed (protect_of live) f new g range →
+    IsStopped hurt (protect_operations (made pin live f live.ro_now live.all_now) mask flags) device changed (made pin live f live.ro_now live.all_now) (made pin live g new.ro_now new.all_now)
+lift-stopped hurt mask flags pin live device changed f g new range idle stopped =
     let core : Core = made pin live f live.ro_now live.all_now in
     let operations : List Operation = protect_operations core mask flags in
     record {
       place = stopped.place;
       stops = stopped.stops;
+      account = stopped.account;
       leaves = ap (λ (p : Protect). made pin live g p.ro_now p.all_now) stopped.same
           ∙ ap (λ (c : Core). record c { flash = g }) (sym (untouched_by (take (suc stopped.place) operations) core idle));
     }
@@ -97,40 +100,23 @@ lift-shown pin live g new view same shown =
     shown ∙ ap (λ (bad : Bool). protect_view (core_with (record { ro_now = new.ro_now; all_now = new.all_now; bad = bad }) pin g)) same
 
 -- FLASH_PROTECT, by the protection alone and by the whole
-lift : (mask flags : ℕ) (pin : Bool) (live : Live) (f g : List ℕ) (new : Protect) (range : Option (ℕ × ℕ)) (result : Result ProtectView DevErr) → live.hash ≡ Idle → new.bad ≡ live.pstate_bad →
-    Sets mask flags pin (protect_of live) f new g range result → IsProtected mask flags (made pin live f live.ro_now live.all_now) (made pin live g new.ro_now new.all_now) result
-lift mask flags pin live f g new range (Ok view) idle bad set =
-    (lift-done mask flags pin live f g new idle set.done, lift-shown pin live g new view bad set.shown)
-lift mask flags pin live f g new None (Err Failed) idle bad unread = inl (lift-unread pin live f g new unread.1 unread.2)
-lift mask flags pin live f g new None (Err PowerLost) idle bad unread = cc
-lift mask flags pin live f g new (Some range) (Err Failed) idle bad stopped = inr (lift-stopped mask flags pin live f g new range idle stopped)
-lift mask flags pin live f g new (Some range) (Err PowerLost) idle bad stopped = lift-stopped mask flags pin live f g new range idle stopped
+lift : (mask flags : ℕ) (pin : Bool) (live : Live) (device changed : DeviceView) (f g : List ℕ) (new : Protect) (range : Option (ℕ × ℕ)) (result : Result ProtectView DevErr) → live.hash ≡ Idle → new.bad ≡ live.pstate_bad →
+    Sets mask flags pin device changed (protect_of live) f new g range result → IsProtected mask flags device changed (made pin live f live.ro_now live.all_now) (made pin live g new.ro_now new.all_now) result
+lift mask flags pin live device changed f g new range (Ok view) idle bad set =
+    (lift-done mask flags pin live f g new idle set.0.done, lift-shown pin live g new view bad set.0.shown, set.1)
+lift mask flags pin live device changed f g new None (Err FailedErr) idle bad unread = inl (lift-unread pin live f g new unread.1 unread.2, unread.3)
+lift mask flags pin live device changed f g new None (Err PowerLost) idle bad unread = cc
+lift mask flags pin live device changed f g new (Some range) (Err FailedErr) idle bad stopped = inr (lift-stopped Failed mask flags pin live device changed f g new range idle stopped)
+lift mask flags pin live device changed f g new (Some range) (Err PowerLost) idle bad stopped = lift-stopped Cut mask flags pin live device changed f g new range idle stopped
 
 -- the same, told
 pub protect-told : (mask flags : ℕ) (old new : CtlView) (pin : Bool) (live : Live) (protect : Protect) (range : Option (ℕ × ℕ)) (result : Result ProtectView DevErr) → live.hash ≡ Idle → protect.bad ≡ live.pstate_bad →
-    Changes (λ before after. Sets mask flags pin (protect_of live) before protect after range result) old.device.held new.device.held →
-    Changes (λ before after. IsProtected mask flags before after result) (told_core (run_of old pin live)) (told_core (run_of new pin (with_locks protect live)))
+    Changes (λ before after. Sets mask flags pin old.device new.device (protect_of live) before protect after range result) old.device.held new.device.held →
+    Changes (λ before after. IsProtected mask flags old.device new.device before after result) (told_core (run_of old pin live)) (told_core (run_of new pin (with_locks protect live)))
 protect-told mask flags old new pin live protect range result idle bad told = by old.device.held new.device.held told where
-  by : (o p : Option (List ℕ)) → Changes (λ before after. Sets mask flags pin (protect_of live) before protect after range result) o p →
-      Changes (λ before after. IsProtected mask flags before after result) (option_map (core_at (run_of old pin live)) o) (option_map (core_at (run_of new pin (with_locks protect live))) p)
+  by : (o p : Option (List ℕ)) → Changes (λ before after. Sets mask flags pin old.device new.device (protect_of live) before protect after range result) o p →
+      Changes (λ before after. IsProtected mask flags old.device new.device before after result) (option_map (core_at (run_of old pin live)) o) (option_map (core_at (run_of new pin (with_locks protect live))) p)
   by None None set = tt
   by None (Some g) set = set
   by (Some f) None set = set
-  by (Some f) (Some g) set = lift mask flags pin live f g protect range result idle bad set
-
--- the core that is told, or another
-abbrev pub core_or : Core → Option Core → Core
-core_or other None = other
-core_or other (Some core) = core
-
--- FLASH_PROTECT wears the device by at most one for each operation
-pub protect-wears : (mask flags : ℕ) (old : CtlView) (worn : ℕ) (pin : Bool) (live : Live) →
-    IfSome old.device.held (λ flash. RisesAtMost (length (protect_operations (core_with (protect_of live) pin flash) mask flags)) old.device.wear worn) →
-    WearsAtMost (λ core. protect_operations core mask flags) (run_of old pin live) worn
-protect-wears mask flags old worn pin live rises core is = by old.device.held rises is where
-  by : (o : Option (List ℕ)) → IfSome o (λ flash. RisesAtMost (length (protect_operations (core_with (protect_of live) pin flash) mask flags)) old.device.wear worn) →
-      option_map (core_at (run_of old pin live)) o ≡ Some core → RisesAtMost (length (protect_operations core mask flags)) old.device.wear worn
-  by None rises is = cc
-  by (Some f) rises is =
-      let same : core_at (run_of old pin live) f ≡ core = ap (core_or (core_at (run_of old pin live) f)) is in
-      subst (λ (c : Core). RisesAtMost (length (protect_operations c mask flags)) old.device.wear worn) same rises
+  by (Some f) (Some g) set = lift mask flags pin live old.device new.device f g protect range result idle bad set

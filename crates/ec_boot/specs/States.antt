@@ -1,6 +1,7 @@
 -- A controller without its bus, as contracts see it.
 use Rattle.std.specs.Prelude.{◌≡◌, ℕ, ◌^◌, ◌<◌, Bool, ◌&&◌, ◌||◌, List, IsTrue, IsFalse, Option, Some, None, option_map, ⊤, Result, Ok, Err}
 use Rattle.flash_dev.specs.Device.{DeviceView, IsChange}
+use Rattle.flash_dev.specs.Operations.{Operation, operation_range}
 use Rattle.flash_dev.specs.declared.device.DevErr.{DevErr}
 use Rattle.flash_ctl.specs.Locks.{CtlView}
 use Rattle.flash_ctl.specs.declared.CtlErr.{CtlErr}
@@ -67,19 +68,19 @@ pub record IsLiveValid (run : RunView) : Type 0 where
   -- a reply can tell the saved status
   pub saved : run.live.saved < 2 ^ 16
 
--- a change of a range by the device, on a controller that is on: a hash over the range is dropped
-pub record IsDone {T : Type 0} (at size : ℕ) (made : List ℕ → List ℕ) (old new : RunView) (result : Result T DevErr) : Type 0 where
-  pub change : IsChange at size made old.device new.device result
+-- an operation of the device, on a controller that is on: a hash over its range is dropped
+pub record IsDone {T : Type 0} (operation : Operation) (old new : RunView) (result : Result T DevErr) : Type 0 where
+  pub change : IsChange operation old.device new.device result
   pub pin : new.pin ≡ old.pin
   pub ro_now : new.live.ro_now ≡ old.live.ro_now
   pub all_now : new.live.all_now ≡ old.live.all_now
-  pub rest : (flash : List ℕ) → core_at new flash ≡ touched (record { at = at; size = size }) (core_at old flash)
+  pub rest : (flash : List ℕ) → core_at new flash ≡ touched (operation_range operation) (core_at old flash)
 
--- a change of a range: refused exactly where a block of it is locked, and then nothing was called; and else the device's
-abbrev pub IsOperated : {T : Type 0} → ℕ → ℕ → (List ℕ → List ℕ) → RunView → RunView → Result T CtlErr → Type 0
-IsOperated {T} at size made old new (Ok x) =
-    IsFalse (is_lock_blocked old.device.extent old.live (record { at = at; size = size })) × IsDone {T = T} at size made old new (Ok x)
-IsOperated at size made old new (Err Locked) =
-    IsTrue (is_lock_blocked old.device.extent old.live (record { at = at; size = size })) × (new ≡ old)
-IsOperated {T} at size made old new (Err (Device error)) =
-    IsFalse (is_lock_blocked old.device.extent old.live (record { at = at; size = size })) × IsDone {T = T} at size made old new (Err error)
+-- an operation: refused exactly where a block of its range is locked, and then nothing was called; and else the device's
+abbrev pub IsOperated : {T : Type 0} → Operation → RunView → RunView → Result T CtlErr → Type 0
+IsOperated {T} operation old new (Ok x) =
+    IsFalse (is_lock_blocked old.device.extent old.live (operation_range operation)) × IsDone {T = T} operation old new (Ok x)
+IsOperated operation old new (Err Locked) =
+    IsTrue (is_lock_blocked old.device.extent old.live (operation_range operation)) × (new ≡ old)
+IsOperated {T} operation old new (Err (Device error)) =
+    IsFalse (is_lock_blocked old.device.extent old.live (operation_range operation)) × IsDone {T = T} operation old new (Err error)

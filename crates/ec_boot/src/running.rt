@@ -1,15 +1,15 @@
 // What a controller that is on can be asked and told, whichever image runs.
 ghost use Rattle.std.specs.Prelude.{◌≡◌, ◌≤◌, ◌+◌, ◌*◌, ◌%◌, length, Some, None, IfSome, IsTrue};
-ghost use Rattle.flash_dev.specs.Flash.{block_size, erased, programmed};
+ghost use Rattle.flash_dev.specs.Flash.{block_size};
+ghost use Rattle.flash_dev.specs.Operations.{Program, Erase};
 ghost use Rattle.flash_dev.specs.Device.{IsRead};
 ghost use Rattle.ec_model.specs.Ranges.{is_flash_size};
 ghost use Rattle.ec_model.specs.Table.{IsErasable};
-ghost use Rattle.ec_model.specs.ProtectRow.{protect_operations};
 ghost use Rattle.flash_dev.specs.Told.{Changes};
-ghost use Rattle.ec_model.specs.Spent.{Costs, RisesAtMost, hurt_of};
+ghost use Rattle.flash_dev.specs.Costs.{Costs, hurt_of};
 ghost use Rattle.ec_boot.specs.States.{RunView, told_core, IsLiveValid, IsOperated};
-ghost use Rattle.ec_boot.specs.Ran.{IsProtected, KeepsLive, WearsAtMost};
-ghost use Rattle.ec_boot.specs.Ticked.{IsTicked, LeavesTicked, tick_operations};
+ghost use Rattle.ec_boot.specs.Ran.{IsProtected, KeepsLive};
+ghost use Rattle.ec_boot.specs.Ticked.{IsTicked, LeavesTicked};
 ghost use Rattle.ec_boot.specs.Guarding.{KeepsGuard};
 
 use ec_model::{Live, ProtectView};
@@ -57,14 +57,14 @@ pub trait Running {
         requires some { 4 ≤ length bytes.now }
         requires short { length bytes.now ≤ 64 }
         requires inside { at + length bytes.now ≤ (run self.old).device.extent }
-        ensures change { IsOperated at (length bytes.now) (programmed at bytes.now) (run self.old) (run self.new) result }
+        ensures change { IsOperated (Program at bytes.now) (run self.old) (run self.new) result }
         ensures guard { Changes KeepsGuard (told_core (run self.old)) (told_core (run self.new)) };
 
     /// Makes each byte of a block 0xFF. A locked block is refused, and then the device is not called; where it is called,
     /// a hash over the block is dropped, also if the call fails or power is lost.
     fn erase_block(&mut self, block: u32) -> Result<(), CtlErr>
         requires { block * block_size + block_size ≤ (run self.old).device.extent }
-        ensures change { IsOperated (block * block_size) block_size (erased block) (run self.old) (run self.new) result }
+        ensures change { IsOperated (Erase block) (run self.old) (run self.new) result }
         ensures guard { Changes KeepsGuard (told_core (run self.old)) (told_core (run self.new)) };
 
     /// FLASH_PROTECT: the stored bits are changed, where others are wanted and RO is not locked, and then the locks that
@@ -72,12 +72,11 @@ pub trait Running {
     /// operations is dropped.
     fn protect(&mut self, mask: u32, flags: u32) -> Result<ProtectView, DevErr>
         requires { (run self.old).live.erase ≡ None }
-        ensures told { Changes (λ before after. IsProtected mask flags before after result) (told_core (run self.old)) (told_core (run self.new)) }
+        ensures told { Changes (λ before after. IsProtected mask flags (run self.old).device (run self.new).device before after result) (told_core (run self.old)) (told_core (run self.new)) }
         // Of every flash: locks are only set, and a mask of 0 changes nothing.
         ensures live { KeepsLive (run self.old) (run self.new) }
         ensures idle { mask ≡ 0 → run self.new ≡ record (run self.old) { device = (run self.new).device } }
         ensures pin { (run self.new).pin ≡ (run self.old).pin }
-        ensures wear { WearsAtMost (λ core. protect_operations core mask flags) (run self.old) (run self.new).device.wear }
         ensures spent { Costs (hurt_of result) 1024 (run self.old).device (run self.new).device }
         ensures guard { Changes KeepsGuard (told_core (run self.old)) (told_core (run self.new)) };
 
@@ -98,10 +97,9 @@ pub trait Running {
     /// A tick that serves no request: the next block of a pending erase, and else nothing. An erase ends with its last
     /// block, and 0 is saved; or with one that failed or was cut, and then 2 is saved. A hash over the block is dropped.
     fn tick(&mut self) -> Result<(), DevErr>
-        ensures told { Changes (λ before after. IsTicked before.live.erase before after result) (told_core (run self.old)) (told_core (run self.new)) }
+        ensures told { Changes (λ before after. IsTicked before.live.erase (run self.old).device (run self.new).device before after result) (told_core (run self.old)) (told_core (run self.new)) }
         ensures rest { LeavesTicked (run self.old).live.erase (run self.old) (run self.new) result }
         ensures pin { (run self.new).pin ≡ (run self.old).pin }
-        ensures wear { RisesAtMost (length (tick_operations (run self.old).live.erase)) (run self.old).device.wear (run self.new).device.wear }
         ensures spent { Costs (hurt_of result) 0 (run self.old).device (run self.new).device }
         ensures guard { Changes KeepsGuard (told_core (run self.old)) (told_core (run self.new)) };
 }

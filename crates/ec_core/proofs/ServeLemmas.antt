@@ -1,13 +1,13 @@
 -- What a request leaves, by its answer.
-use Rattle.std.proofs.Common.{◌≡◌, refl, sym, ap, ◌∙◌, subst, ℕ, ◌-◌, ◌≤◌, Bool, List, [], length, Option, Some, None, Result, Ok, Err, inl, inr, arith, ◌||◌, true, false}
+use Rattle.std.proofs.Common.{◌≡◌, refl, sym, ap, ◌∙◌, subst, ℕ, suc, ◌-◌, ◌≤◌, Bool, List, [], length, Option, Some, None, Result, Ok, Err, inl, inr, arith, ◌||◌, true, false}
 use Rattle.std.specs.Prelude.{option_map, ◌⊎◌, IsTrue, IsNone}
 use Rattle.flash_dev.specs.Told.{Changes}
 use Rattle.ec_types.specs.declared.status.Status.{Status}
 use Rattle.ec_types.specs.declared.bus.BusKind.{BusKind}
 use Rattle.ec_types.specs.declared.bus.BusKind.TheVariants.{Lpc, I2c, Spi}
 use Rattle.ec_types.specs.Tables.{packet_limit}
-use Rattle.ec_model.specs.declared.event.Hurt.{Hurt}
-use Rattle.ec_model.specs.declared.event.Hurt.TheVariants.{Whole, Failed, Cut}
+use Rattle.flash_dev.specs.declared.hurt.Hurt.{Hurt}
+use Rattle.flash_dev.specs.declared.hurt.Hurt.TheVariants.{Whole, Failed, Cut}
 use Rattle.ec_model.specs.declared.event.Event.{Event}
 use Rattle.ec_model.specs.Packet.{RequestView, framing, response_packet}
 use Rattle.ec_model.specs.Bus.{BusState, BusAnswer, due_now, OnLpc, OnI2c, OnSpi, kind_of, replied}
@@ -16,20 +16,23 @@ use Rattle.ec_model.specs.Answer.{Outcome, Answered, Restarts, is_restart}
 use Rattle.ec_model.specs.Handle.{admitted, admitted_from, asked, row_of, operations_by, handled, handled_reads, handled_operations}
 use Rattle.ec_model.specs.Work.{Serve, After as AfterEvent, work_on, lost_answer}
 use Rattle.ec_model.specs.WholeStep.{after_outcome}
-use Rattle.ec_model.specs.Step.{WorkLeaves, after_unread, error_replied, failed_core}
+use Rattle.ec_model.specs.Step.{after_unread, error_replied, failed_core}
 use Rattle.ec_packet.specs.declared.request.Request.{Request}
 use Rattle.ec_packet.specs.Read.{request_view, IsReadAs}
 use Rattle.ec_wire.specs.Dues.{asked_of}
 use Rattle.ec_boot.specs.States.{RunView, OffView, core_at, told_core, Follows}
 use Rattle.command_table.specs.declared.table.After.{After}
-use Rattle.ec_boot.specs.Ran.{IsStopped}
+use Rattle.flash_dev.specs.View.{DeviceView}
+use Rattle.flash_dev.proofs.Accounting.{account-same}
+use Rattle.ec_model.specs.Operations.{Operation}
+use Rattle.ec_boot.specs.Ran.{IsStopped, AllBegun, ReadFailed}
 use Rattle.command_table.specs.Leaves.{FoundLeaves, HasReply}
 use Rattle.command_table.specs.After.{IsAnswered, IsLostIn, StaysOn, GoesOff}
 use Rattle.ec_core.specs.Held.{awake_of, up_table, down_table, answer_by}
 use Rattle.ec_core.specs.Task.{IsTakenUp, IsStepped}
 use Rattle.ec_core.specs.declared.held.Held.TheVariants.{Down, Up}
 use Rattle.ec_core.specs.declared.task.Task.TheVariants.{Serve as ServeTask}
-use Rattle.ec_core.proofs.TaskLemmas.{WorkTold, event-told, step-up, stays, unspent, on-alive, spent-in, work-wears}
+use Rattle.ec_core.proofs.TaskLemmas.{WorkBegun, WorkTold, event-told, step-up, unspent, on-alive, spent-in}
 
 read-ok : (read : Result RequestView ℕ) (request : Request) → IsReadAs read (Ok request) → read ≡ Ok (request_view request)
 read-ok (Ok view) request same = ap (λ (v : RequestView). let r : Result RequestView ℕ = Ok v in r) (sym same)
@@ -68,11 +71,16 @@ packet-refused kind bytes error hurt status body on read whole status_is body_is
       pin = refl;
       short = (limits kind).least;
       spent = unspent 1024 on.device;
-      wear = λ core told. stays (length (operations_by core (asked core bytes))) on.device.wear on.device.wear refl;
     }))) where
-      leaves : (o : Option (List ℕ)) → Changes (λ before after. FoundLeaves (asked before bytes) Whole (packet_limit kind) before after error.0 []) (option_map (core_at on) o) (option_map (core_at on) o)
+      leaves : (o : Option (List ℕ)) → Changes (λ before after. FoundLeaves (asked before bytes) Whole (packet_limit kind) on.device on.device before after error.0 []) (option_map (core_at on) o) (option_map (core_at on) o)
       leaves None = tt
-      leaves (Some f) = ap (λ (r : Result RequestView ℕ). row_of (core_at on f) (packet_limit kind) (admitted_from (core_at on f) r)) (read-err (framing bytes) error read)
+      leaves (Some f) =
+          let core : Core = core_at on f in
+          let none = ap (λ (r : Result RequestView ℕ). operations_by core (admitted_from core r)) (read-err (framing bytes) error read) in
+          (
+            ap (λ (r : Result RequestView ℕ). row_of core (packet_limit kind) (admitted_from core r)) (read-err (framing bytes) error read),
+            subst (λ (operations : List Operation). AllBegun operations on.device on.device core core) (sym none) (account-same [] on.device on.device f f refl),
+          )
 
 -- a row that reads
 reads-of : (reads restarts : Bool) → IsTrue reads → IsTrue (reads || restarts)
@@ -93,56 +101,74 @@ with-error core bus answer status body status_is body_is =
     ap (λ (n : ℕ). with_reply core bus answer n body) status_is ∙ ap (λ (b : List ℕ). with_reply core bus answer 2 b) body_is
 
 -- the work of a request that was replied to
-replied-leaves : (hurt : Hurt) (before after : Core) (bus : BusState) (answer lost : ℕ) (bytes : List ℕ) (status : ℕ) (body : List ℕ) → (hurt ≡ Cut → ⊥) →
-    FoundLeaves (asked before bytes) hurt (packet_limit (kind_of bus)) before after status body →
-    WorkLeaves hurt before (record { state = bus; answer = answer }) lost (Serve bytes) (record { table = table_of after (replied (response_packet status body) bus); answer = answer_by hurt answer lost })
-replied-leaves Whole before after bus answer lost bytes status body alive same =
-    sym (ap (after_outcome before (record { state = bus; answer = answer }) lost) same)
-replied-leaves Cut before after bus answer lost bytes status body alive leaves = absurd (alive refl)
-replied-leaves Failed before after bus answer lost bytes status body alive failed = by failed.what where
-  by : (IsTrue (handled_reads before (packet_limit (kind_of bus)) bytes) × HasReply (handled before (packet_limit (kind_of bus)) bytes) × (after ≡ before)) ⊎ IsStopped (handled_operations before bytes) before after →
-      WorkLeaves Failed before (record { state = bus; answer = answer }) lost (Serve bytes) (record { table = table_of after (replied (response_packet status body) bus); answer = answer })
-  by (inl read) =
-      inl (record {
-        reads = reads-of (handled_reads before (packet_limit (kind_of bus)) bytes) (is_restart (handled before (packet_limit (kind_of bus)) bytes)) read.0;
-        leaves = ap (λ (c : Core). with_reply c bus answer status body) read.2 ∙ with-error before bus answer status body failed.status_is failed.body_is
-            ∙ unread-of before (record { state = bus; answer = answer }) lost (handled before (packet_limit (kind_of bus)) bytes) read.1;
-      })
-  by (inr stopped) =
-      inr (record {
-        place = stopped.place;
-        flash = after.flash;
-        stops = stopped.stops;
-        leaves = ap (λ (c : Core). with_reply c bus answer status body) stopped.leaves
-            ∙ with-error (failed_core before after.flash (handled_operations before bytes) stopped.place) bus answer status body failed.status_is failed.body_is;
-      })
+replied-leaves : (hurt : Hurt) (device changed : DeviceView) (before after : Core) (bus : BusState) (answer lost : ℕ) (bytes : List ℕ) (status : ℕ) (body : List ℕ) → (hurt ≡ Cut → ⊥) →
+    FoundLeaves (asked before bytes) hurt (packet_limit (kind_of bus)) device changed before after status body →
+    WorkBegun hurt (record { state = bus; answer = answer }) lost (Serve bytes) (answer_by hurt answer lost) device changed before (table_of after (replied (response_packet status body) bus))
+replied-leaves Whole device changed before after bus answer lost bytes status body alive same = record {
+  begun = length (handled_operations before bytes);
+  leaves = (refl, sym (ap (after_outcome before (record { state = bus; answer = answer }) lost) same.0));
+  account = same.1;
+}
+replied-leaves Cut device changed before after bus answer lost bytes status body alive leaves = absurd (alive refl)
+replied-leaves Failed device changed before after bus answer lost bytes status body alive failed = by failed.what where
+  by : (IsTrue (handled_reads before (packet_limit (kind_of bus)) bytes) × HasReply (handled before (packet_limit (kind_of bus)) bytes) × ReadFailed (handled_operations before bytes) device changed before after)
+      ⊎ IsStopped Failed (handled_operations before bytes) device changed before after →
+      WorkBegun Failed (record { state = bus; answer = answer }) lost (Serve bytes) answer device changed before (table_of after (replied (response_packet status body) bus))
+  by (inl read) = record {
+    begun = 0;
+    leaves = inl (refl, record {
+      reads = reads-of (handled_reads before (packet_limit (kind_of bus)) bytes) (is_restart (handled before (packet_limit (kind_of bus)) bytes)) read.0;
+      leaves = ap (λ (c : Core). with_reply c bus answer status body) read.2.0 ∙ with-error before bus answer status body failed.status_is failed.body_is
+          ∙ unread-of before (record { state = bus; answer = answer }) lost (handled before (packet_limit (kind_of bus)) bytes) read.1;
+    });
+    account = read.2.1;
+  }
+  by (inr stopped) = record {
+    begun = suc stopped.place;
+    leaves = inr (record {
+      place = stopped.place;
+      flash = after.flash;
+      stops = stopped.stops;
+      leaves = ap (λ (c : Core). with_reply c bus answer status body) stopped.leaves
+          ∙ with-error (failed_core before after.flash (handled_operations before bytes) stopped.place) bus answer status body failed.status_is failed.body_is;
+    }, refl);
+    account = stopped.account;
+  }
 
 -- the same, where the flash tells its bytes
 replied-told : (hurt : Hurt) (old new : RunView) (bus : BusState) (answer lost : ℕ) (bytes : List ℕ) (status : ℕ) (body : List ℕ) → (hurt ≡ Cut → ⊥) →
-    Changes (λ before after. FoundLeaves (asked before bytes) hurt (packet_limit (kind_of bus)) before after status body) (told_core old) (told_core new) →
-    WorkTold hurt (record { state = bus; answer = answer }) lost (Serve bytes) (answer_by hurt answer lost) old (up_table (replied (response_packet status body) bus) new)
+    Changes (λ before after. FoundLeaves (asked before bytes) hurt (packet_limit (kind_of bus)) old.device new.device before after status body) (told_core old) (told_core new) →
+    WorkTold hurt (record { state = bus; answer = answer }) lost (Serve bytes) (answer_by hurt answer lost) new.device old (up_table (replied (response_packet status body) bus) new)
 replied-told hurt old new bus answer lost bytes status body alive leaves = by old.device.held new.device.held leaves where
-  by : (o p : Option (List ℕ)) → Changes (λ before after. FoundLeaves (asked before bytes) hurt (packet_limit (kind_of bus)) before after status body) (option_map (core_at old) o) (option_map (core_at new) p) →
-      Follows (λ core table. WorkLeaves hurt core (record { state = bus; answer = answer }) lost (Serve bytes) (record { table = table; answer = answer_by hurt answer lost }))
+  by : (o p : Option (List ℕ)) → Changes (λ before after. FoundLeaves (asked before bytes) hurt (packet_limit (kind_of bus)) old.device new.device before after status body) (option_map (core_at old) o) (option_map (core_at new) p) →
+      Follows (WorkBegun hurt (record { state = bus; answer = answer }) lost (Serve bytes) (answer_by hurt answer lost) old.device new.device)
       (option_map (core_at old) o) (option_map (λ flash. table_of (core_at new flash) (replied (response_packet status body) bus)) p)
   by None None told = tt
   by None (Some g) told = told
   by (Some f) None told = told
-  by (Some f) (Some g) told = replied-leaves hurt (core_at old f) (core_at new g) bus answer lost bytes status body alive told
+  by (Some f) (Some g) told = replied-leaves hurt old.device new.device (core_at old f) (core_at new g) bus answer lost bytes status body alive told
 
 -- power was lost, where the flash tells its bytes
 lost-told : (old : RunView) (off : OffView) (bus : BusState) (kind : BusKind) (answer lost : ℕ) (bytes : List ℕ) → kind_of bus ≡ kind →
-    Follows (IsLostIn (λ core. asked core bytes)) (told_core old) off.device.held →
-    WorkTold Cut (record { state = bus; answer = answer }) lost (Serve bytes) lost old (down_table kind old.pin off)
+    Follows (IsLostIn (λ core. asked core bytes) old.device off.device) (told_core old) off.device.held →
+    WorkTold Cut (record { state = bus; answer = answer }) lost (Serve bytes) lost off.device old (down_table kind old.pin off)
 lost-told old off bus kind answer lost bytes kind_is leaves = by old.device.held off.device.held leaves where
-  by : (o p : Option (List ℕ)) → Follows (IsLostIn (λ core. asked core bytes)) (option_map (core_at old) o) p →
-      Follows (λ core table. WorkLeaves Cut core (record { state = bus; answer = answer }) lost (Serve bytes) (record { table = table; answer = lost }))
+  by : (o p : Option (List ℕ)) → Follows (IsLostIn (λ core. asked core bytes) old.device off.device) (option_map (core_at old) o) p →
+      Follows (WorkBegun Cut (record { state = bus; answer = answer }) lost (Serve bytes) lost old.device off.device)
       (option_map (core_at old) o) (option_map (λ flash. off_table flash old.pin kind) p)
   by None None told = tt
   by None (Some g) told = told
   by (Some f) None told = told
-  by (Some f) (Some g) told =
-      record { place = told.place; flash = g; stops = told.stops; leaves = ap (λ (k : BusKind). let a : AfterEvent = record { table = off_table g old.pin k; answer = lost } in a) (sym kind_is) }
+  by (Some f) (Some g) told = record {
+    begun = suc told.place;
+    leaves = (record {
+      place = told.place;
+      flash = g;
+      stops = told.stops;
+      leaves = ap (λ (k : BusKind). let a : AfterEvent = record { table = off_table g old.pin k; answer = lost } in a) (sym kind_is);
+    }, refl);
+    account = told.account;
+  }
 
 -- nothing is due once a reply is there
 replied-none : (packet : List ℕ) (bus : BusState) → IsNone (due_now (replied packet bus))
@@ -163,13 +189,12 @@ pub served-up : {F : Type 0} (kind : BusKind) (event : Event) (answer : ℕ) (ol
     IsTakenUp event old_bus (Some ServeTask) bus answer run → IsStepped {F = F} kind event hurt (answer_by hurt answer (lost_answer event)) old_bus new_bus (Some (Up run)) (Some (Up next))
 served-up {F} kind event answer old_bus bus new_bus run next hurt status body bytes kind_is asked_is bus_is stays_on taken =
     let work_is : work_on (awake_of run old_bus) event ≡ Serve bytes = taken.task_is.serves ∙ ap (λ (r : List ℕ). Serve r) (same-some taken.task_is.request bytes (asked_of bus) taken.task_is.asked asked_is) in
-    let leaves = subst (λ (k : BusKind). Changes (λ before after. FoundLeaves (asked before bytes) hurt (packet_limit k) before after status body) (told_core run) (told_core next)) (sym kind_is) stays_on.leaves in
+    let leaves = subst (λ (k : BusKind). Changes (λ before after. FoundLeaves (asked before bytes) hurt (packet_limit k) run.device next.device before after status body) (told_core run) (told_core next)) (sym kind_is) stays_on.leaves in
     subst (λ (b : BusState). IsStepped {F = F} kind event hurt (answer_by hurt answer (lost_answer event)) old_bus b (Some (Up run)) (Some (Up next))) (sym bus_is)
     (step-up {F = F} kind event hurt answer old_bus bus (replied (response_packet status body) bus) (Some ServeTask) run (Up next) taken
-    (event-told hurt event old_bus bus answer (answer_by hurt answer (lost_answer event)) run (Serve bytes) (up_table (replied (response_packet status body) bus) next) taken.state taken.answer_is work_is
+    (event-told hurt event old_bus bus answer (answer_by hurt answer (lost_answer event)) next.device run (Serve bytes) (up_table (replied (response_packet status body) bus) next) taken.state taken.answer_is work_is
     (replied-told hurt run next bus answer (lost_answer event) bytes status body stays_on.alive leaves))
-    (on-alive hurt stays_on.alive) stays_on.pin (replied-none (response_packet status body) bus) (spent-in hurt 1024 run.device next.device (omega arith) stays_on.spent)
-    (work-wears event old_bus run (Serve bytes) next.device.wear work_is stays_on.wear))
+    (on-alive hurt stays_on.alive) stays_on.pin (replied-none (response_packet status body) bus) (spent-in hurt 1024 run.device next.device (omega arith) stays_on.spent))
 
 -- a request in which power was lost
 pub served-down : {F : Type 0} (kind : BusKind) (event : Event) (answer : ℕ) (old_bus bus : BusState) (run : RunView) (off : OffView) (pin : Bool) (hurt : Hurt) (bytes : List ℕ) → kind_of bus ≡ kind → asked_of bus ≡ Some bytes → pin ≡ run.pin →
@@ -179,7 +204,6 @@ served-down {F} kind event answer old_bus bus run off pin hurt bytes kind_is ask
     let work_is : work_on (awake_of run old_bus) event ≡ Serve bytes = taken.task_is.serves ∙ ap (λ (r : List ℕ). Serve r) (same-some taken.task_is.request bytes (asked_of bus) taken.task_is.asked asked_is) in
     subst (λ (p : Bool). IsStepped {F = F} kind event Cut (lost_answer event) old_bus bus (Some (Up run)) (Some (Down off p))) (sym pin_is)
     (step-up {F = F} kind event Cut answer old_bus bus bus (Some ServeTask) run (Down off run.pin) taken
-    (event-told Cut event old_bus bus answer (lost_answer event) run (Serve bytes) (down_table kind run.pin off) taken.state taken.answer_is work_is
+    (event-told Cut event old_bus bus answer (lost_answer event) off.device run (Serve bytes) (down_table kind run.pin off) taken.state taken.answer_is work_is
     (lost-told run off bus kind answer (lost_answer event) bytes kind_is goes_off.leaves))
-    refl refl tt (spent-in Cut 1024 run.device off.device (omega arith) goes_off.spent)
-    (work-wears event old_bus run (Serve bytes) off.device.wear work_is goes_off.wear))
+    refl refl tt (spent-in Cut 1024 run.device off.device (omega arith) goes_off.spent))

@@ -1,23 +1,26 @@
 -- What an event leaves, by what its task leaves.
-use Rattle.std.proofs.Common.{◌≡◌, refl, sym, ap, ◌∙◌, subst, ℕ, ◌≤◌, Bool, true, false, List, length, Option, Some, None, arith}
+use Rattle.std.proofs.Common.{◌≡◌, refl, sym, ap, ◌∙◌, subst, ℕ, ◌≤◌, Bool, true, false, List, [], length, Option, Some, None, arith}
 use Rattle.std.specs.Prelude.{option_map, is_some}
 use Rattle.flash_dev.specs.Device.{DeviceView}
 use Rattle.ec_types.specs.declared.bus.BusKind.{BusKind}
-use Rattle.ec_model.specs.declared.event.Hurt.{Hurt}
-use Rattle.ec_model.specs.declared.event.Hurt.TheVariants.{Whole, Failed, Cut}
+use Rattle.flash_dev.specs.declared.hurt.Hurt.{Hurt}
+use Rattle.flash_dev.specs.declared.hurt.Hurt.TheVariants.{Whole, Failed, Cut}
 use Rattle.ec_model.specs.declared.event.Event.{Event}
 use Rattle.ec_model.specs.declared.event.Event.TheVariants.{Access, Tick, Reset, Power as PowerEvent, Pin}
 use Rattle.ec_model.specs.HostCalls.{on_after_event}
 use Rattle.ec_model.specs.Bus.{BusState, BusAnswer, kind_of}
 use Rattle.ec_model.specs.Table.{Core, Table, table_of, off_table}
-use Rattle.ec_model.specs.Work.{Work, Rest, Serve, Stop, SetPin, work_on, work_off, bus_after, lost_answer, operations_of, work_operations, After}
+use Rattle.ec_model.specs.Work.{Work, Rest, Serve, Stop, SetPin, work_on, work_off, bus_after, lost_answer, work_operations, After}
 use Rattle.ec_model.specs.WholeStep.{worked_off}
-use Rattle.ec_model.specs.Step.{WorkLeaves}
+use Rattle.ec_model.specs.Step.{WorkLeaves, OffLeaves}
 use Rattle.ec_wire.specs.Dues.{asked_of}
 use Rattle.ec_boot.specs.States.{RunView, OffView, core_at, told_core, Follows}
-use Rattle.ec_model.specs.Spent.{Costs, RisesAtMost}
-use Rattle.ec_core.specs.View.{WearsBy}
-use Rattle.ec_core.specs.Held.{awake_of, up_table, down_table, held_table, held_pin, held_device, is_up, is_kept_up, IsCalm, IsSpent, IsSilent, EventTold, answer_by, on_behind}
+use Rattle.flash_dev.specs.Costs.{Costs, Account}
+use Rattle.flash_dev.proofs.Accounting.{account-same}
+use Rattle.ec_model.specs.Operations.{Operation}
+use Rattle.ec_model.specs.Played.{WorkBegins}
+use Rattle.flash_dev.specs.Counts.{RisesAtMost}
+use Rattle.ec_core.specs.Held.{awake_of, up_table, down_table, held_table, held_pin, held_device, is_up, is_kept_up, IsCalm, IsSpent, IsSilent, Accounts, EventTold, answer_by, on_behind}
 use Rattle.ec_core.specs.Task.{IsTakenUp, IsTakenDown, IsTaken, IsStepped, CanCarry, on_after_task, pin_after_task}
 use Rattle.ec_core.specs.declared.held.Held.{Held}
 use Rattle.ec_core.specs.declared.held.Held.TheVariants.{Down, Up}
@@ -30,25 +33,40 @@ bus-answer both state answer state_is answer_is =
     ap (λ (s : BusState). let b : BusAnswer = record { state = s; answer = answer } in b) state_is
     ∙ ap (λ (n : ℕ). let b : BusAnswer = record { state = both.state; answer = n } in b) answer_is
 
--- what some work leaves of what is on, where the flash tells its bytes
-abbrev pub WorkTold : Hurt → BusAnswer → ℕ → Work → ℕ → RunView → Option Table → Type 0
-WorkTold hurt bus lost work said run after =
-    Follows (λ core table. WorkLeaves hurt core bus lost work (record { table = table; answer = said })) (told_core run) after
+-- what some work leaves of what is on, with the flash operations that it began, as the device counted them
+pub record WorkBegun (hurt : Hurt) (bus : BusAnswer) (lost : ℕ) (work : Work) (said : ℕ) (device changed : DeviceView) (core : Core) (table : Table) : Type 0 where
+  pub begun : ℕ
+  pub leaves : WorkBegins hurt begun core bus lost work (record { table = table; answer = said })
+  pub account : Account begun hurt (work_operations core work) device changed core.flash table.flash
+
+-- the same, where the flash tells its bytes
+abbrev pub WorkTold : Hurt → BusAnswer → ℕ → Work → ℕ → DeviceView → RunView → Option Table → Type 0
+WorkTold hurt bus lost work said changed run after = Follows (WorkBegun hurt bus lost work said run.device changed) (told_core run) after
+
+-- work that calls no flash
+pub none-begun : (bus : BusAnswer) (lost : ℕ) (work : Work) (said : ℕ) (device : DeviceView) (core : Core) (table : Table) → work_operations core work ≡ [] → WorkLeaves Whole core bus lost work (record { table = table; answer = said }) →
+    WorkBegun Whole bus lost work said device device core table
+none-begun bus lost work said device core table none leaves = record {
+  begun = 0;
+  leaves = (sym (ap (λ (operations : List Operation). length operations) none), leaves);
+  account = subst (λ (operations : List Operation). Account 0 Whole operations device device core.flash table.flash) (sym none) (account-same [] device device core.flash table.flash refl);
+}
 
 -- an event leaves what its work does
-pub event-told : (hurt : Hurt) (event : Event) (old_bus bus : BusState) (answer said : ℕ) (run : RunView) (work : Work) (after : Option Table) →
+pub event-told : (hurt : Hurt) (event : Event) (old_bus bus : BusState) (answer said : ℕ) (changed : DeviceView) (run : RunView) (work : Work) (after : Option Table) →
     bus ≡ (bus_after old_bus event).state → answer ≡ (bus_after old_bus event).answer → work_on (awake_of run old_bus) event ≡ work →
-    WorkTold hurt (record { state = bus; answer = answer }) (lost_answer event) work said run after → EventTold hurt event said (up_table old_bus run) after
-event-told hurt event old_bus bus answer said run work after state_is answer_is work_is told = by run.device.held after told where
+    WorkTold hurt (record { state = bus; answer = answer }) (lost_answer event) work said changed run after → EventTold hurt event said run.device changed (up_table old_bus run) after
+event-told hurt event old_bus bus answer said changed run work after state_is answer_is work_is told = by run.device.held after told where
   by : (o : Option (List ℕ)) (t : Option Table) →
-      Follows (λ core table. WorkLeaves hurt core (record { state = bus; answer = answer }) (lost_answer event) work (record { table = table; answer = said })) (option_map (core_at run) o) t →
-      EventTold hurt event said (option_map (λ flash. table_of (core_at run flash) old_bus) o) t
+      Follows (WorkBegun hurt (record { state = bus; answer = answer }) (lost_answer event) work said run.device changed) (option_map (core_at run) o) t →
+      EventTold hurt event said run.device changed (option_map (λ flash. table_of (core_at run flash) old_bus) o) t
   by None None here = tt
   by None (Some t) here = here
   by (Some f) None here = here
   by (Some f) (Some t) here =
-      subst (λ (b : BusAnswer). WorkLeaves hurt (core_at run f) b (lost_answer event) (work_on (awake_of run old_bus) event) (record { table = t; answer = said })) (bus-answer (bus_after old_bus event) bus answer state_is answer_is)
-      (subst (λ (w : Work). WorkLeaves hurt (core_at run f) (record { state = bus; answer = answer }) (lost_answer event) w (record { table = t; answer = said })) (sym work_is) here)
+      let begun = subst (λ (b : BusAnswer). WorkBegun hurt b (lost_answer event) (work_on (awake_of run old_bus) event) said run.device changed (core_at run f) t) (bus-answer (bus_after old_bus event) bus answer state_is answer_is)
+      (subst (λ (w : Work). WorkBegun hurt (record { state = bus; answer = answer }) (lost_answer event) w said run.device changed (core_at run f) t) (sym work_is) here) in
+      record { begun = begun.begun; leaves = begun.leaves; account = begun.account }
 
 -- whether a controller is on, where power may have been lost
 abbrev pub on_by : Hurt → Bool → Bool
@@ -80,11 +98,10 @@ stays amount before now same = record { least = omega arith; most = omega arith 
 
 -- a step of a controller that is on, by its parts
 pub step-up : {F : Type 0} (kind : BusKind) (event : Event) (hurt : Hurt) (answer : ℕ) (old_bus bus new_bus : BusState) (task : Option Task) (run : RunView) (new : Held F) →
-    IsTakenUp event old_bus task bus answer run → EventTold hurt event (answer_by hurt answer (lost_answer event)) (up_table old_bus run) (held_table kind new_bus new) →
+    IsTakenUp event old_bus task bus answer run → EventTold hurt event (answer_by hurt answer (lost_answer event)) run.device (held_device new) (up_table old_bus run) (held_table kind new_bus new) →
     is_up new ≡ on_by hurt (on_after_task task true) → held_pin new ≡ pin_after_task task run.pin → IsCalm new_bus new → IsSpent hurt run.device (held_device new) →
-    WearsBy event (up_table old_bus run) run.device.wear (held_device new).wear →
     IsStepped kind event hurt (answer_by hurt answer (lost_answer event)) old_bus new_bus (Some (Up run)) (Some new)
-step-up kind event hurt answer old_bus bus new_bus task run new taken told on pin calm spent wear =
+step-up kind event hurt answer old_bus bus new_bus task run new taken told on pin calm spent =
     record {
       told = told;
       on = on ∙ sym (on-after hurt event true (on_after_task task true) taken.like.on_is);
@@ -95,15 +112,14 @@ step-up kind event hurt answer old_bus bus new_bus task run new taken told on pi
       silent = silent-by hurt event answer taken.like.silent;
       calm = calm;
       spent = spent;
-      wear = wear;
     }
 
 -- a step of a controller that is off, by its parts
 pub step-down : {F : Type 0} (kind : BusKind) (event : Event) (hurt : Hurt) (answer : ℕ) (old_bus new_bus : BusState) (task : Option Task) (off : OffView) (pin : Bool) (new : Held F) → (hurt ≡ Cut → ⊥) →
-    IsTakenDown event task answer → EventTold hurt event answer (down_table kind pin off) (held_table kind new_bus new) →
-    is_up new ≡ on_after_task task false → held_pin new ≡ pin_after_task task pin → IsCalm new_bus new → IsSpent hurt off.device (held_device new) → (held_device new).wear ≡ off.device.wear →
+    IsTakenDown event task answer → EventTold hurt event answer off.device (held_device new) (down_table kind pin off) (held_table kind new_bus new) →
+    is_up new ≡ on_after_task task false → held_pin new ≡ pin_after_task task pin → IsCalm new_bus new → IsSpent hurt off.device (held_device new) →
     IsStepped kind event hurt (answer_by hurt answer (lost_answer event)) old_bus new_bus (Some (Down off pin)) (Some new)
-step-down {F} kind event hurt answer old_bus new_bus task off pin new alive taken told on pin_is calm spent wear =
+step-down {F} kind event hurt answer old_bus new_bus task off pin new alive taken told on pin_is calm spent =
     subst (λ (said : ℕ). IsStepped {F = F} kind event hurt said old_bus new_bus (Some (Down off pin)) (Some new)) (sym (by hurt))
     (record {
       told = told;
@@ -115,7 +131,6 @@ step-down {F} kind event hurt answer old_bus new_bus task off pin new alive take
       silent = taken.like.silent;
       calm = calm;
       spent = spent;
-      wear = λ table told_is. stays (length (operations_of table event)) off.device.wear (held_device new).wear wear;
     }) where
       by : (h : Hurt) → answer_by h answer (lost_answer event) ≡ answer
       by Whole = refl
@@ -130,24 +145,12 @@ step-down {F} kind event hurt answer old_bus new_bus task off pin new alive take
 -- nothing was spent
 pub unspent : (asked : ℕ) (device : DeviceView) → Costs Whole asked device device
 unspent asked device =
-    record { extent = refl; faults = omega arith; cuts = omega arith; rose = tt; refusals = refl; fetched = stays asked device.fetched device.fetched refl }
+    record { extent = refl; faults = omega arith; cuts = omega arith; own_cuts = omega arith; rose = tt; refusals = refl; fetched = stays asked device.fetched device.fetched refl }
 
 -- an event may cost more than its task did
 pub spent-in : (hurt : Hurt) (asked : ℕ) (old new : DeviceView) → asked ≤ 1024 → Costs hurt asked old new → IsSpent hurt old new
 spent-in hurt asked old new short spent =
-    record { extent = spent.extent; faults = spent.faults; cuts = spent.cuts; rose = spent.rose; refusals = spent.refusals; fetched = record { least = spent.fetched.least; most = omega (arith, spent.fetched.most) } }
-
--- the operations of an event are those of its work
-pub work-wears : (event : Event) (old_bus : BusState) (run : RunView) (work : Work) (worn : ℕ) → work_on (awake_of run old_bus) event ≡ work →
-    ((core : Core) → told_core run ≡ Some core → RisesAtMost (length (work_operations core work)) run.device.wear worn) → WearsBy event (up_table old_bus run) run.device.wear worn
-work-wears event old_bus run work worn work_is wear table told = by run.device.held told (λ core is. wear core is) where
-  by : (o : Option (List ℕ)) → option_map (λ flash. table_of (core_at run flash) old_bus) o ≡ Some table →
-      ((core : Core) → option_map (core_at run) o ≡ Some core → RisesAtMost (length (work_operations core work)) run.device.wear worn) → RisesAtMost (length (operations_of table event)) run.device.wear worn
-  by None same here = cc
-  by (Some f) same here =
-      let table_is : table_of (core_at run f) old_bus ≡ table = cc in
-      subst (λ (t : Table). RisesAtMost (length (operations_of t event)) run.device.wear worn) table_is
-      (subst (λ (w : Work). RisesAtMost (length (work_operations (core_at run f) w)) run.device.wear worn) (sym work_is) (here (core_at run f) refl))
+    record { extent = spent.extent; faults = spent.faults; cuts = spent.cuts; own_cuts = spent.own_cuts; rose = spent.rose; refusals = spent.refusals; fetched = record { least = spent.fetched.least; most = omega (arith, spent.fetched.most) } }
 
 -- a controller stays on where power was not lost
 pub on-alive : (hurt : Hurt) → (hurt ≡ Cut → ⊥) → true ≡ on_by hurt true
@@ -156,63 +159,70 @@ on-alive Failed alive = refl
 on-alive Cut alive = absurd (alive refl)
 
 -- work that leaves all as it is
-pub rest-told : (bus : BusState) (answer lost : ℕ) (run : RunView) → WorkTold Whole (record { state = bus; answer = answer }) lost Rest answer run (up_table bus run)
+pub rest-told : (bus : BusState) (answer lost : ℕ) (run : RunView) → WorkTold Whole (record { state = bus; answer = answer }) lost Rest answer run.device run (up_table bus run)
 rest-told bus answer lost run = by run.device.held where
-  by : (o : Option (List ℕ)) → Follows (λ core table. WorkLeaves Whole core (record { state = bus; answer = answer }) lost Rest (record { table = table; answer = answer })) (option_map (core_at run) o) (option_map (λ flash. table_of (core_at run flash) bus) o)
+  by : (o : Option (List ℕ)) → Follows (WorkBegun Whole (record { state = bus; answer = answer }) lost Rest answer run.device run.device) (option_map (core_at run) o) (option_map (λ flash. table_of (core_at run flash) bus) o)
   by None = tt
-  by (Some f) = refl
+  by (Some f) = none-begun (record { state = bus; answer = answer }) lost Rest answer run.device (core_at run f) (table_of (core_at run f) bus) refl refl
 
-rest-down : (kind : BusKind) (event : Event) (pin : Bool) (off : OffView) (answer : ℕ) → answer ≡ lost_answer event → work_off event ≡ Rest → EventTold Whole event answer (down_table kind pin off) (down_table kind pin off)
+-- an event of a controller that is off calls no flash, but for a boot
+pub none-off : (event : Event) (answer : ℕ) (device : DeviceView) (flash : List ℕ) (pin : Bool) (kind : BusKind) (table : Table) → OffLeaves Whole (off_table flash pin kind) event (record { table = table; answer = answer }) →
+    Accounts Whole event answer device device (off_table flash pin kind) table
+none-off event answer device flash pin kind table leaves = record { begun = 0; leaves = (refl, leaves); account = account-same [] device device flash table.flash refl }
+
+rest-down : (kind : BusKind) (event : Event) (pin : Bool) (off : OffView) (answer : ℕ) → answer ≡ lost_answer event → work_off event ≡ Rest → EventTold Whole event answer off.device off.device (down_table kind pin off) (down_table kind pin off)
 rest-down kind event pin off answer answer_is work_is = by off.device.held where
-  by : (o : Option (List ℕ)) → EventTold Whole event answer (option_map (λ flash. off_table flash pin kind) o) (option_map (λ flash. off_table flash pin kind) o)
+  by : (o : Option (List ℕ)) → EventTold Whole event answer off.device off.device (option_map (λ flash. off_table flash pin kind) o) (option_map (λ flash. off_table flash pin kind) o)
   by None = tt
   by (Some f) =
-      subst (λ (w : Work). ◌≡◌ {A = After} (record { table = off_table f pin kind; answer = answer }) (worked_off (off_table f pin kind) event w)) (sym work_is)
-      (ap (λ (n : ℕ). let a : After = record { table = off_table f pin kind; answer = n } in a) answer_is)
+      none-off event answer off.device f pin kind (off_table f pin kind)
+      (subst (λ (w : Work). ◌≡◌ {A = After} (record { table = off_table f pin kind; answer = answer }) (worked_off (off_table f pin kind) event w)) (sym work_is)
+      (ap (λ (n : ℕ). let a : After = record { table = off_table f pin kind; answer = n } in a) answer_is))
 
 -- an event without a task leaves what is held
 pub stepped-rest : {F : Type 0} (kind : BusKind) (event : Event) (answer : ℕ) (old_bus bus : BusState) (held : Option (Held F)) → IsTaken event old_bus None bus answer held → IsStepped kind event Whole answer old_bus bus held held
 stepped-rest kind event answer old_bus bus None taken = absurd taken
 stepped-rest {F} kind event answer old_bus bus (Some (Up run)) taken =
     step-up {F = F} kind event Whole answer old_bus bus bus None run (Up run) taken
-    (event-told Whole event old_bus bus answer answer run Rest (up_table bus run) taken.state taken.answer_is taken.task_is (rest-told bus answer (lost_answer event) run))
-    refl refl taken.calm (unspent 1024 run.device) (λ table told. stays (length (operations_of table event)) run.device.wear run.device.wear refl)
+    (event-told Whole event old_bus bus answer answer run.device run Rest (up_table bus run) taken.state taken.answer_is taken.task_is (rest-told bus answer (lost_answer event) run))
+    refl refl taken.calm (unspent 1024 run.device)
 stepped-rest {F} kind event answer old_bus bus (Some (Down off pin)) taken =
     step-down {F = F} kind event Whole answer old_bus bus None off pin (Down off pin) (λ cut. cc) taken
-    (rest-down kind event pin off answer taken.answer_is (taken.task_is bus)) refl refl tt (unspent 1024 off.device) refl
+    (rest-down kind event pin off answer taken.answer_is (taken.task_is bus)) refl refl tt (unspent 1024 off.device)
 
 -- a stop
 stop-told : (bus : BusState) (kind : BusKind) (answer lost : ℕ) (run : RunView) (off : OffView) → kind_of bus ≡ kind → off.device ≡ run.device →
-    WorkTold Whole (record { state = bus; answer = answer }) lost Stop answer run (down_table kind run.pin off)
+    WorkTold Whole (record { state = bus; answer = answer }) lost Stop answer off.device run (down_table kind run.pin off)
 stop-told bus kind answer lost run off kind_is device_is =
-    subst (λ (device : DeviceView). WorkTold Whole (record { state = bus; answer = answer }) lost Stop answer run (option_map (λ flash. off_table flash run.pin kind) device.held)) (sym device_is) (by run.device.held) where
-      by : (o : Option (List ℕ)) → Follows (λ core table. WorkLeaves Whole core (record { state = bus; answer = answer }) lost Stop (record { table = table; answer = answer })) (option_map (core_at run) o) (option_map (λ flash. off_table flash run.pin kind) o)
+    subst (λ (device : DeviceView). WorkTold Whole (record { state = bus; answer = answer }) lost Stop answer device run (option_map (λ flash. off_table flash run.pin kind) device.held)) (sym device_is) (by run.device.held) where
+      by : (o : Option (List ℕ)) → Follows (WorkBegun Whole (record { state = bus; answer = answer }) lost Stop answer run.device run.device) (option_map (core_at run) o) (option_map (λ flash. off_table flash run.pin kind) o)
       by None = tt
-      by (Some f) = ap (λ (k : BusKind). let a : After = record { table = off_table f run.pin k; answer = answer } in a) (sym kind_is)
+      by (Some f) =
+          none-begun (record { state = bus; answer = answer }) lost Stop answer run.device (core_at run f) (off_table f run.pin kind) refl
+          (ap (λ (k : BusKind). let a : After = record { table = off_table f run.pin k; answer = answer } in a) (sym kind_is))
 
 pub stopped-up : {F : Type 0} (kind : BusKind) (event : Event) (answer : ℕ) (old_bus bus : BusState) (run : RunView) (off : OffView) (pin : Bool) → kind_of bus ≡ kind → off.device ≡ run.device → pin ≡ run.pin →
     IsTakenUp event old_bus (Some StopTask) bus answer run → IsStepped {F = F} kind event Whole answer old_bus bus (Some (Up run)) (Some (Down off pin))
 stopped-up {F} kind event answer old_bus bus run off pin kind_is device_is pin_is taken =
     subst (λ (p : Bool). IsStepped {F = F} kind event Whole answer old_bus bus (Some (Up run)) (Some (Down off p))) (sym pin_is)
     (step-up {F = F} kind event Whole answer old_bus bus bus (Some StopTask) run (Down off run.pin) taken
-    (event-told Whole event old_bus bus answer answer run Stop (down_table kind run.pin off) taken.state taken.answer_is taken.task_is (stop-told bus kind answer (lost_answer event) run off kind_is device_is))
-    refl refl tt (subst (λ (device : DeviceView). IsSpent Whole run.device device) (sym device_is) (unspent 1024 run.device))
-    (λ table told. stays (length (operations_of table event)) run.device.wear off.device.wear (ap (λ (device : DeviceView). device.wear) device_is)))
+    (event-told Whole event old_bus bus answer answer off.device run Stop (down_table kind run.pin off) taken.state taken.answer_is taken.task_is (stop-told bus kind answer (lost_answer event) run off kind_is device_is))
+    refl refl tt (subst (λ (device : DeviceView). IsSpent Whole run.device device) (sym device_is) (unspent 1024 run.device)))
 
 -- a change of the pin
-pin-told : (bus : BusState) (answer lost : ℕ) (on : Bool) (run : RunView) → WorkTold Whole (record { state = bus; answer = answer }) lost (SetPin on) answer run (up_table bus (record run { pin = on }))
+pin-told : (bus : BusState) (answer lost : ℕ) (on : Bool) (run : RunView) → WorkTold Whole (record { state = bus; answer = answer }) lost (SetPin on) answer run.device run (up_table bus (record run { pin = on }))
 pin-told bus answer lost on run = by run.device.held where
-  by : (o : Option (List ℕ)) → Follows (λ core table. WorkLeaves Whole core (record { state = bus; answer = answer }) lost (SetPin on) (record { table = table; answer = answer })) (option_map (core_at run) o) (option_map (λ flash. table_of (core_at (record run { pin = on }) flash) bus) o)
+  by : (o : Option (List ℕ)) → Follows (WorkBegun Whole (record { state = bus; answer = answer }) lost (SetPin on) answer run.device run.device) (option_map (core_at run) o) (option_map (λ flash. table_of (core_at (record run { pin = on }) flash) bus) o)
   by None = tt
-  by (Some f) = refl
+  by (Some f) = none-begun (record { state = bus; answer = answer }) lost (SetPin on) answer run.device (core_at run f) (table_of (core_at (record run { pin = on }) f) bus) refl refl
 
 pub pinned-up : {F : Type 0} (kind : BusKind) (event : Event) (on : Bool) (answer : ℕ) (old_bus bus : BusState) (run next : RunView) → next ≡ record run { pin = on } →
     IsTakenUp event old_bus (Some (SetPinTask on)) bus answer run → IsStepped {F = F} kind event Whole answer old_bus bus (Some (Up run)) (Some (Up next))
 pinned-up {F} kind event on answer old_bus bus run next next_is taken =
     subst (λ (r : RunView). IsStepped {F = F} kind event Whole answer old_bus bus (Some (Up run)) (Some (Up r))) (sym next_is)
     (step-up {F = F} kind event Whole answer old_bus bus bus (Some (SetPinTask on)) run (Up (record run { pin = on })) taken
-    (event-told Whole event old_bus bus answer answer run (SetPin on) (up_table bus (record run { pin = on })) taken.state taken.answer_is taken.task_is (pin-told bus answer (lost_answer event) on run))
-    refl refl taken.calm (unspent 1024 run.device) (λ table told. stays (length (operations_of table event)) run.device.wear run.device.wear refl))
+    (event-told Whole event old_bus bus answer answer run.device run (SetPin on) (up_table bus (record run { pin = on })) taken.state taken.answer_is taken.task_is (pin-told bus answer (lost_answer event) on run))
+    refl refl taken.calm (unspent 1024 run.device))
 
 -- only a change of the pin has a controller set it that is off, and that answers nothing
 pub record IsPin (event : Event) (on : Bool) : Type 0 where
@@ -226,21 +236,21 @@ pin-event (PowerEvent true) on same = cc
 pin-event (PowerEvent false) on same = cc
 pin-event (Pin other) on same = record { event_is = cc }
 
-pin-off-told : (kind : BusKind) (pin on : Bool) (off : OffView) → EventTold Whole (Pin on) 0 (down_table kind pin off) (down_table kind on off)
+pin-off-told : (kind : BusKind) (pin on : Bool) (off : OffView) → EventTold Whole (Pin on) 0 off.device off.device (down_table kind pin off) (down_table kind on off)
 pin-off-told kind pin on off = by off.device.held where
-  by : (o : Option (List ℕ)) → EventTold Whole (Pin on) 0 (option_map (λ flash. off_table flash pin kind) o) (option_map (λ flash. off_table flash on kind) o)
+  by : (o : Option (List ℕ)) → EventTold Whole (Pin on) 0 off.device off.device (option_map (λ flash. off_table flash pin kind) o) (option_map (λ flash. off_table flash on kind) o)
   by None = tt
-  by (Some f) = refl
+  by (Some f) = none-off (Pin on) 0 off.device f pin kind (off_table f on kind) refl
 
 pub pinned-down : {F : Type 0} (kind : BusKind) (event : Event) (on : Bool) (answer : ℕ) (old_bus bus : BusState) (off : OffView) (pin : Bool) → IsTakenDown event (Some (SetPinTask on)) answer →
     IsStepped {F = F} kind event Whole answer old_bus bus (Some (Down off pin)) (Some (Down off on))
 pinned-down {F} kind event on answer old_bus bus off pin taken =
     let is = pin-event event on (taken.task_is old_bus) in
     let nothing : answer ≡ 0 = taken.answer_is ∙ ap lost_answer is.event_is in
-    let here : EventTold Whole event answer (down_table kind pin off) (down_table kind on off) =
-    subst (λ (e : Event). EventTold Whole e answer (down_table kind pin off) (down_table kind on off)) (sym is.event_is)
-    (subst (λ (n : ℕ). EventTold Whole (Pin on) n (down_table kind pin off) (down_table kind on off)) (sym nothing) (pin-off-told kind pin on off)) in
-    step-down {F = F} kind event Whole answer old_bus bus (Some (SetPinTask on)) off pin (Down off on) (λ cut. cc) taken here refl refl tt (unspent 1024 off.device) refl
+    let here : EventTold Whole event answer off.device off.device (down_table kind pin off) (down_table kind on off) =
+    subst (λ (e : Event). EventTold Whole e answer off.device off.device (down_table kind pin off) (down_table kind on off)) (sym is.event_is)
+    (subst (λ (n : ℕ). EventTold Whole (Pin on) n off.device off.device (down_table kind pin off) (down_table kind on off)) (sym nothing) (pin-off-told kind pin on off)) in
+    step-down {F = F} kind event Whole answer old_bus bus (Some (SetPinTask on)) off pin (Down off on) (λ cut. cc) taken here refl refl tt (unspent 1024 off.device)
 
 -- a request is there where one is to be served, and only a controller that is on serves, ticks or stops
 serves-not : (event : Event) (request : List ℕ) → work_off event ≡ Serve request → ⊥

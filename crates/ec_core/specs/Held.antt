@@ -5,13 +5,14 @@ use Rattle.flash_dev.specs.Device.{DeviceView}
 use Rattle.ec_types.specs.declared.bus.BusKind.{BusKind}
 use Rattle.ec_model.specs.declared.event.Event.{Event}
 use Rattle.ec_model.specs.declared.event.Event.TheVariants.{Access as AccessEvent}
-use Rattle.ec_model.specs.declared.event.Hurt.{Hurt}
-use Rattle.ec_model.specs.declared.event.Hurt.TheVariants.{Whole, Failed, Cut}
+use Rattle.flash_dev.specs.declared.hurt.Hurt.{Hurt}
+use Rattle.flash_dev.specs.declared.hurt.Hurt.TheVariants.{Whole, Failed, Cut}
 use Rattle.ec_model.specs.Bus.{BusState, due_now}
 use Rattle.ec_model.specs.Table.{Awake, Table, Valid, off_table, table_of}
 use Rattle.ec_model.specs.HostCalls.{on_after_event}
-use Rattle.ec_model.specs.Step.{EventLeaves}
-use Rattle.ec_model.specs.Spent.{Costs}
+use Rattle.ec_model.specs.Work.{operations_of}
+use Rattle.ec_model.specs.Played.{EventBegins}
+use Rattle.flash_dev.specs.Costs.{Costs, Account}
 use Rattle.ec_boot.specs.States.{RunView, OffView, core_at}
 use Rattle.ec_core.specs.declared.held.Held.{Held}
 use Rattle.ec_core.specs.declared.held.Held.TheVariants.{Down, Up}
@@ -70,7 +71,18 @@ kept_pin (Some held) = held_pin held
 
 -- the device of a controller
 abbrev pub kept_device : {F : Type 0} → Option (Held F) → DeviceView
-kept_device None = record { held = None; extent = 0; faults = 0; cuts = 0; refusals = 0; wear = 0; fetched = 0 }
+kept_device None = record {
+  held = None;
+  extent = 0;
+  faults = 0;
+  cuts = 0;
+  own_cuts = 0;
+  refusals = 0;
+  begun = 0;
+  armed = None;
+  wear = 0;
+  fetched = 0;
+}
 kept_device (Some held) = held_device held
 
 -- a controller holds something, and no request is due now where it is on
@@ -89,9 +101,15 @@ answer_by Cut answer lost = lost
 answer_by Whole answer lost = answer
 answer_by Failed answer lost = answer
 
--- what an event leaves and answers, where the flash tells its bytes
-abbrev pub EventTold : Hurt → Event → ℕ → Option Table → Option Table → Type 0
-EventTold hurt event answer = Changes (λ old new. EventLeaves hurt old event (record { table = new; answer = answer }))
+-- what an event leaves and answers, with the flash operations that it began, as the device counted them
+pub record Accounts (hurt : Hurt) (event : Event) (answer : ℕ) (device changed : DeviceView) (old new : Table) : Type 0 where
+  pub begun : ℕ
+  pub leaves : EventBegins hurt begun old event old.power (record { table = new; answer = answer })
+  pub account : Account begun hurt (operations_of old event) device changed old.flash new.flash
+
+-- the same, where the flash tells its bytes
+abbrev pub EventTold : Hurt → Event → ℕ → DeviceView → DeviceView → Option Table → Option Table → Type 0
+EventTold hurt event answer device changed = Changes (Accounts hurt event answer device changed)
 
 -- an event that is no access answers 0
 abbrev pub IsSilent : Event → ℕ → Type 0

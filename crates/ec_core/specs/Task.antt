@@ -2,8 +2,8 @@
 use Rattle.std.specs.Prelude.{◌≡◌, ℕ, Bool, true, false, IsNone, IsSome, IsTrue, IsFalse, List, Option, Some, None, ⊤}
 use Rattle.ec_types.specs.declared.bus.BusKind.{BusKind}
 use Rattle.ec_model.specs.declared.event.Event.{Event}
-use Rattle.ec_model.specs.declared.event.Hurt.{Hurt}
-use Rattle.ec_model.specs.declared.event.Hurt.TheVariants.{Cut}
+use Rattle.flash_dev.specs.declared.hurt.Hurt.{Hurt}
+use Rattle.flash_dev.specs.declared.hurt.Hurt.TheVariants.{Cut}
 use Rattle.ec_model.specs.Bus.{BusState, due_now}
 use Rattle.ec_model.specs.HostCalls.{on_after_event}
 use Rattle.ec_model.specs.Guarded.{pin_after}
@@ -11,7 +11,6 @@ use Rattle.ec_model.specs.Work.{Work, Rest, Serve, Boot, Stop, SetPin, idle_work
 use Rattle.ec_wire.specs.Dues.{asked_of}
 use Rattle.ec_boot.specs.States.{RunView}
 use Rattle.ec_core.specs.Held.{awake_of, kept_table, kept_device, kept_pin, is_kept_up, IsKept, IsSpent, IsSilent, EventTold, answer_by, on_behind}
-use Rattle.ec_core.specs.View.{WearsBy}
 use Rattle.ec_core.specs.declared.held.Held.{Held}
 use Rattle.ec_core.specs.declared.held.Held.TheVariants.{Down, Up}
 use Rattle.ec_core.specs.declared.task.Task.{Task}
@@ -85,7 +84,7 @@ IsTaken event old_bus task bus answer (Some (Down off pin)) = IsTakenDown event 
 
 -- what an event made of what a controller holds, and answered
 pub record IsStepped {F : Type 0} (kind : BusKind) (event : Event) (hurt : Hurt) (answer : ℕ) (old_bus bus : BusState) (old new : Option (Held F)) : Type 0 where
-  pub told : EventTold hurt event answer (kept_table kind old_bus old) (kept_table kind bus new)
+  pub told : EventTold hurt event answer (kept_device old) (kept_device new) (kept_table kind old_bus old) (kept_table kind bus new)
   pub on : is_kept_up new ≡ on_behind hurt event (is_kept_up old)
   pub pin : kept_pin new ≡ pin_after event (kept_pin old)
   pub off : IsFalse (is_kept_up old) → answer ≡ lost_answer event
@@ -94,7 +93,6 @@ pub record IsStepped {F : Type 0} (kind : BusKind) (event : Event) (hurt : Hurt)
   pub silent : IsSilent event answer
   pub calm : IsKept bus new
   pub spent : IsSpent hurt (kept_device old) (kept_device new)
-  pub wear : WearsBy event (kept_table kind old_bus old) (kept_device old).wear (kept_device new).wear
 
 -- what a task made of what a controller holds, for each event that it is the task of
 abbrev pub IsCarried : {F : Type 0} → BusKind → Task → Hurt → BusState → BusState → Option (Held F) → Option (Held F) → Type 0

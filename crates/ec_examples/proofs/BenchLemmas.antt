@@ -1,15 +1,15 @@
 -- Entries of a bench on which no cut is armed.
-use Rattle.std.proofs.Common.{◌≡◌, refl, subst, ℕ, List, [], ◌∷◌, ◌++◌, Option, arith, length}
+use Rattle.std.proofs.Common.{◌≡◌, refl, subst, ℕ, zero, suc, List, [], ◌∷◌, ◌++◌, Option, None, arith, length}
 use Rattle.ec_model.specs.declared.event.Event.{Event}
 use Rattle.ec_model.specs.declared.event.Event.TheVariants.{Tick}
 use Rattle.ec_model.specs.declared.event.Entry.{Entry}
-use Rattle.ec_model.specs.declared.event.Hurt.{Hurt}
-use Rattle.ec_model.specs.declared.event.Hurt.TheVariants.{Whole}
+use Rattle.flash_dev.specs.declared.hurt.Hurt.{Hurt}
+use Rattle.flash_dev.specs.declared.hurt.Hurt.TheVariants.{Whole}
 use Rattle.ec_model.specs.Table.{Table, Power, Off, On}
 use Rattle.ec_model.specs.Work.{After, operations_by_power, operations_of}
 use Rattle.ec_model.specs.Step.{EventLeavesBy, IsStep}
 use Rattle.ec_model.specs.declared.event.Entry.TheVariants.{Step}
-use Rattle.ec_model.specs.Bench.{Armed, ArmedCut, Bench, Waits, unarmed}
+use Rattle.ec_model.specs.Bench.{Armed, ArmedCut, Bench, Waits, unarmed, cut_after}
 use Rattle.ec_model.specs.Played.{EventBegins, PlaysEntry, PlaysEvents, PlaysWait, Played}
 
 -- a whole event began all of its operations
@@ -17,6 +17,11 @@ begins : (table : Table) (event : Event) (power : Power) (after : After) → Eve
     → EventBegins Whole (length (operations_by_power table event power)) table event power after
 begins table event Off after leaves = (refl, leaves)
 begins table event (On awake) after leaves = (refl, leaves)
+
+-- where no cut is armed, none is behind operations
+none-after : (begun : ℕ) → None ≡ cut_after begun None
+none-after zero = refl
+none-after (suc begun) = refl
 
 -- a whole step of the controller is an entry of its bench, whatever events are armed
 pub whole_entry : (table : Table) (armed : List Armed) (event : Event) (answer meant seen : ℕ) (after : Table)
@@ -27,7 +32,7 @@ whole_entry table armed event answer meant seen after step = record {
   step = begins table event table.power (record { table = after; answer = answer }) step;
   falls = tt;
   cause = tt;
-  cut_is = refl;
+  cut_is = none-after (length (operations_of table event));
   armed_is = refl;
   faults_later = omega arith;
   cuts_later = omega arith;

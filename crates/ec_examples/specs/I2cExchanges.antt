@@ -4,7 +4,7 @@ use Rattle.ec_model.specs.declared.event.Access.TheVariants.{I2cStartWrite, I2cS
 use Rattle.ec_model.specs.declared.event.Event.TheVariants.{Access}
 use Rattle.ec_model.specs.declared.event.Entry.{Entry}
 use Rattle.ec_model.specs.declared.event.Entry.TheVariants.{Step}
-use Rattle.ec_model.specs.declared.event.Hurt.TheVariants.{Whole}
+use Rattle.flash_dev.specs.declared.hurt.Hurt.TheVariants.{Whole}
 use Rattle.ec_examples.specs.Entries.{plain}
 
 -- a stop, which brings I2C to rest

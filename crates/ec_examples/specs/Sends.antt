@@ -7,7 +7,7 @@ use Rattle.ec_model.specs.declared.event.Event.{Event}
 use Rattle.ec_model.specs.declared.event.Event.TheVariants.{Access, Tick, Reset}
 use Rattle.ec_model.specs.declared.event.Entry.{Entry}
 use Rattle.ec_model.specs.declared.event.Entry.TheVariants.{Step}
-use Rattle.ec_model.specs.declared.event.Hurt.TheVariants.{Whole}
+use Rattle.flash_dev.specs.declared.hurt.Hurt.TheVariants.{Whole}
 use Rattle.ec_examples.specs.Events.{powered, port_outs, port_ins, spi_bytes}
 use Rattle.ec_examples.specs.Entries.{plain, entries_of, lpc_asked, lpc_exchange, waited, read_ports}
 

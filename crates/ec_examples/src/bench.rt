@@ -6,7 +6,7 @@ ghost use Rattle.ec_model.specs.declared.event.WorldReset.TheVariants.{Pin as By
 ghost use Rattle.ec_model.specs.declared.event.WorldEvent.TheVariants.{Reset, Power, Pin, Byte};
 ghost use Rattle.ec_model.specs.declared.event.Event.TheVariants.{Access, Tick, Reset as ResetEvent, Power as PowerEvent, Pin as PinEvent};
 ghost use Rattle.ec_model.specs.declared.event.Entry.TheVariants.{Step, Mark};
-ghost use Rattle.ec_model.specs.declared.event.Hurt.TheVariants.{Whole, Failed, Cut};
+ghost use Rattle.flash_dev.specs.declared.hurt.Hurt.TheVariants.{Whole, Failed, Cut};
 ghost use Rattle.ec_model.specs.Table.{off_table};
 ghost use Rattle.ec_model.specs.WholeStep.{stepped};
 ghost use Rattle.ec_model.specs.Bench.{ArmedCut, Accesses, Waits, Happens, Marks, Arms, ArmsCut, due_events, still_armed, byte_among, unarmed};

@@ -6,7 +6,7 @@ ghost use Rattle.ec_types.specs.declared.reset.ResetCause.TheVariants.{PowerOn};
 ghost use Rattle.ec_model.specs.declared.event.Access.TheVariants.{I2cStartRead};
 ghost use Rattle.ec_model.specs.declared.event.Event.TheVariants.{Access, Tick, Power};
 ghost use Rattle.ec_model.specs.declared.event.Entry.TheVariants.{Step};
-ghost use Rattle.ec_model.specs.declared.event.Hurt.TheVariants.{Failed, Cut};
+ghost use Rattle.flash_dev.specs.declared.hurt.Hurt.TheVariants.{Failed, Cut};
 ghost use Rattle.ec_model.specs.declared.live.HashView.TheVariants.{Busy};
 ghost use Rattle.ec_model.specs.Bus.{fresh_bus};
 ghost use Rattle.ec_model.specs.Table.{table_of, off_table};

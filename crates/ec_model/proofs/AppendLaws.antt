@@ -1,12 +1,12 @@
 -- Where a record has its place, a FLASH_PROTECT that fails or is cut leaves the stored bits as they were, or as was wanted.
-use Rattle.std.proofs.Common.{◌≡◌, refl, sym, ap, ◌∙◌, subst, ℕ, ◌+◌, ◌*◌, ◌-◌, ◌/◌, ◌≤◌, Bool, true, false, ◌||◌, if◌then◌else◌, List, [], ◌∷◌, length, drop, arith, inl, inr, Result, Ok, Err}
+use Rattle.std.proofs.Common.{◌≡◌, refl, sym, ap, ◌∙◌, subst, ℕ, ◌+◌, ◌-◌, ◌/◌, Bool, true, false, ◌||◌, if◌then◌else◌, List, [], ◌∷◌, length, drop, arith, inl, inr, Ok}
 use Rattle.std.specs.Prelude.{◌⊎◌}
 use Rattle.flash_dev.specs.Flash.{block_size}
 use Rattle.ec_types.specs.LittleEndian.{u32_at}
 use Rattle.ec_types.specs.Tables.{packet_limit}
 use Rattle.ec_model.specs.declared.event.Event.{Event}
-use Rattle.ec_model.specs.declared.event.Hurt.{Hurt}
-use Rattle.ec_model.specs.declared.event.Hurt.TheVariants.{Whole, Failed, Cut}
+use Rattle.flash_dev.specs.declared.hurt.Hurt.{Hurt}
+use Rattle.flash_dev.specs.declared.hurt.Hurt.TheVariants.{Whole, Failed, Cut}
 use Rattle.ec_model.specs.declared.event.Entry.TheVariants.{Step}
 use Rattle.ec_model.specs.Commands.{FlashProtect}
 use Rattle.ec_model.specs.Stored.{AtBoot, stored, stored_in, stored_block, has_place, same_bits, mark2_bytes}
@@ -16,9 +16,9 @@ use Rattle.ec_model.specs.Operations.{Operation, Program, Erase, operated_all, a
 use Rattle.ec_model.specs.ProtectRow.{wanted, record_operations, storing_operations, protect_operations, can_lock, locks_set, protected}
 use Rattle.ec_model.specs.Answer.{Outcome, Answered, Restarts}
 use Rattle.ec_model.specs.Handle.{asked, handled, row_of, operations_by}
-use Rattle.ec_model.specs.Work.{After, Work, Serve, work_on, bus_after, lost_answer, work_operations}
-use Rattle.ec_model.specs.WholeStep.{worked, after_outcome}
-use Rattle.ec_model.specs.Step.{IsStep, WorkLeaves, EventLeavesBy, after_unread, unfinished, failed_core}
+use Rattle.ec_model.specs.Work.{After, Work, Serve, bus_after, lost_answer, work_operations}
+use Rattle.ec_model.specs.WholeStep.{after_outcome}
+use Rattle.ec_model.specs.Step.{IsStep, WorkLeaves, EventLeavesBy, after_unread}
 use Rattle.ec_model.specs.Appending.{AddsWhole}
 use Rattle.ec_model.proofs.GuardSteps.{if_cases}
 use Rattle.ec_model.proofs.GuardStep.{size_bound}

@@ -1,6 +1,5 @@
 -- Every step keeps the guard, whatever fails or tears in it.
 use Rattle.std.proofs.Common.{◌≡◌, refl, sym, ap, ◌∙◌, ℕ, suc, ◌+◌, ◌-◌, ◌/◌, ◌≤◌, Bool, true, false, ◌||◌, List, [], ◌∷◌, length, take, drop, arith, Option, Some, None, Result, Ok, Err, inl, inr}
-use Rattle.std.proofs.lemmas.List.{take-take, drop-take}
 use Rattle.std.specs.Prelude.{nat_le}
 use Rattle.std.specs.Bool.{⊤}
 use Rattle.std.proofs.lemmas.Bool.Decides.{eqb_tells}
@@ -14,10 +13,10 @@ use Rattle.ec_model.specs.declared.live.HashView.{HashView}
 use Rattle.ec_model.specs.declared.live.HashView.TheVariants.{Idle, Busy, Done}
 use Rattle.ec_model.specs.declared.event.Event.{Event}
 use Rattle.ec_model.specs.declared.event.Event.TheVariants.{Access, Tick, Reset, Power as PowerEvent, Pin as PinEvent}
-use Rattle.ec_model.specs.declared.event.Hurt.{Hurt}
+use Rattle.flash_dev.specs.declared.hurt.Hurt.{Hurt}
 use Rattle.ec_model.specs.declared.event.Entry.{Entry}
 use Rattle.ec_model.specs.declared.event.Entry.TheVariants.{Step, Mark}
-use Rattle.ec_model.specs.declared.event.Hurt.TheVariants.{Whole, Failed, Cut}
+use Rattle.flash_dev.specs.declared.hurt.Hurt.TheVariants.{Whole, Failed, Cut}
 use Rattle.ec_model.specs.Ranges.{is_flash_size, block_range}
 use Rattle.ec_model.specs.Stored.{AtBoot, stored, stored_in}
 use Rattle.ec_model.specs.Bus.{due_now, due_at_tick, bus_step, BusState, BusAnswer, kind_of}

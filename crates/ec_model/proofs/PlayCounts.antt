@@ -6,7 +6,7 @@ use Rattle.ec_model.specs.declared.event.Event.{Event}
 use Rattle.ec_model.specs.declared.event.WorldEvent.{WorldEvent}
 use Rattle.ec_model.specs.declared.event.Entry.{Entry}
 use Rattle.ec_model.specs.declared.event.Entry.TheVariants.{Step, Mark}
-use Rattle.ec_model.specs.declared.event.Hurt.{Hurt}
+use Rattle.flash_dev.specs.declared.hurt.Hurt.{Hurt}
 use Rattle.ec_model.specs.Bench.{Bench, BenchCall, CountsNothing, Accesses, Waits, Happens, Marks, Arms, ArmsCut, due_events, still_armed, events_among}
 use Rattle.ec_model.specs.Played.{PlaysEntry, PlaysEvents, PlaysAccess, PlaysWait, PlaysBehindDue, Played, PlayedAll}
 

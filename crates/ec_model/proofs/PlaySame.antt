@@ -8,8 +8,8 @@ use Rattle.ec_model.specs.declared.event.Event.{Event}
 use Rattle.ec_model.specs.declared.event.WorldEvent.{WorldEvent}
 use Rattle.ec_model.specs.declared.event.Entry.{Entry}
 use Rattle.ec_model.specs.declared.event.Entry.TheVariants.{Step, Mark}
-use Rattle.ec_model.specs.declared.event.Hurt.{Hurt}
-use Rattle.ec_model.specs.declared.event.Hurt.TheVariants.{Whole, Failed, Cut}
+use Rattle.flash_dev.specs.declared.hurt.Hurt.{Hurt}
+use Rattle.flash_dev.specs.declared.hurt.Hurt.TheVariants.{Whole, Failed, Cut}
 use Rattle.ec_model.specs.Table.{Table, Power, Off, On, off_table}
 use Rattle.ec_model.specs.Bus.{kind_of}
 use Rattle.ec_model.specs.Work.{After, operations_of, operations_by_power, bus_after}
@@ -43,7 +43,7 @@ falls-same : (cut : Option ArmedCut) (Faulty Faulted : Type 0) (begun other_begu
     → (one ≡ other) × (begun ≡ other_begun)
 falls-same None Faulty Faulted begun other_begun operations old one other still again first second once twice = absurd first
 falls-same (Some cut) Faulty Faulted begun other_begun operations old one other still again first second once twice =
-    (torn-same _ cut.torn Faulty Faulted operations old one other still again (once.1 first).1 (twice.1 second).1, first ∙ sym second)
+    (torn-same _ cut.torn Faulty Faulted operations old one other still again (once.1 first).1 (twice.1 second).1, first.1 ∙ sym second.1)
 
 -- a step that is cut leaves one table for one flash, by whether the controller is on
 cut-same : (old : Table) (event : Event) (power : Power) (one other : After) → EventLeavesBy Cut old event power one → EventLeavesBy Cut old event power other

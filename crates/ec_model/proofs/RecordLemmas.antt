@@ -1,11 +1,10 @@
 -- What a record that is added to the stored protection leaves of it, also where its writing stops.
-use Rattle.std.proofs.Common.{◌≡◌, refl, sym, ap, ◌∙◌, subst, ℕ, zero, suc, ◌+◌, ◌*◌, ◌-◌, ◌/◌, ◌≤◌, ◌<◌, min, Bool, true, false, ◌&&◌, ◌==◌, nat_lt, if◌then◌else◌, List, [], ◌∷◌, ◌++◌, take, drop, length, replicate, slice_range, slice_get, Some, arith, inl, inr, length-take, length-drop, length-append, append_assoc}
+use Rattle.std.proofs.Common.{◌≡◌, refl, sym, ap, ◌∙◌, subst, ℕ, zero, suc, ◌+◌, ◌*◌, ◌-◌, ◌/◌, ◌≤◌, ◌<◌, Bool, true, false, ◌&&◌, ◌==◌, nat_lt, if◌then◌else◌, List, [], ◌∷◌, ◌++◌, take, drop, length, replicate, slice_range, arith, inl, inr, length-take, length-drop, append_assoc}
 use Rattle.std.specs.Prelude.{slice_index, ◌⊎◌}
-use Rattle.std.specs.List.{list_all}
 use Rattle.std.proofs.Math.Seq.{take-append_seam, drop-append_seam}
 use Rattle.std.proofs.lemmas.List.{drop-drop, drop-replicate, length-replicate, take-replicate, take-append-le}
 use Rattle.std.proofs.lemmas.Bool.Decides.{eqb_tells, leb_tells}
-use Rattle.flash_dev.specs.Flash.{programmed, erased, overwritten, and_bytes, Torn, block_size}
+use Rattle.flash_dev.specs.Flash.{programmed, overwritten, and_bytes, Torn, block_size}
 use Rattle.flash_dev.proofs.Overwriting.{torn-overwritten}
 use Rattle.ec_types.specs.LittleEndian.{u32_at, u32_bytes}
 use Rattle.ec_model.specs.Stored.{AtBoot, bits_of_word, word_of_bits, has_mark, has_mark1, has_mark2, slot_count, slot, is_counting, is_blank, bits_among, next_slot, has_place, stored_in, mark2_bytes, open_gate}
@@ -13,7 +12,7 @@ use Rattle.ec_model.specs.Operations.{Operation, Program, Erase, operation_range
 use Rattle.ec_model.specs.ProtectRow.{record_operations, storing_at}
 use Rattle.ec_model.proofs.GuardSteps.{and_parts}
 use Rattle.ec_model.proofs.GuardLemmas.{length-anded, some-injective}
-use Rattle.ec_model.proofs.StoredLemmas.{slots_end, take-drop-take, SaysSame, bits-same, bits-below, next-blank, next-first, mark-take, u32_at-take, IsPlaced, placed, last-or}
+use Rattle.ec_model.proofs.StoredLemmas.{slots_end, take-drop-take, bits-same, bits-below, next-blank, next-first, mark-take, u32_at-take, placed, last-or}
 
 -- a part below a range that was torn
 torn-below : (m place at n : ℕ) (old new : List ℕ) → Torn at n old new → place + m ≤ at → take m (drop place new) ≡ take m (drop place old)

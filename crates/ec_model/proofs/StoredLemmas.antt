@@ -1,13 +1,11 @@
 -- What the stored bits depend on.
-use Rattle.std.proofs.Common.{◌≡◌, refl, sym, ap, ◌∙◌, ℕ, zero, suc, ◌+◌, ◌*◌, ◌-◌, ◌≤◌, ◌<◌, Bool, true, false, ◌&&◌, ◌==◌, if◌then◌else◌, List, [], ◌∷◌, take, drop, length, get_or, arith, length-drop}
-use Rattle.std.specs.Prelude.{slice_index, nat_lt, ◌⊎◌}
+use Rattle.std.proofs.Common.{◌≡◌, refl, sym, ap, ◌∙◌, ℕ, zero, suc, ◌+◌, ◌*◌, ◌-◌, ◌≤◌, ◌<◌, Bool, true, false, ◌==◌, if◌then◌else◌, List, take, drop, arith}
+use Rattle.std.specs.Prelude.{nat_lt, ◌⊎◌}
 use Rattle.std.proofs.Common.{inl, inr}
-use Rattle.std.specs.List.{list_all}
-use Rattle.std.proofs.lemmas.List.{take-take, drop-take, get_or-take, drop-drop}
+use Rattle.std.proofs.lemmas.List.{take-take, drop-take, get_or-take}
 use Rattle.std.proofs.lemmas.Bool.Decides.{eqb_tells, leb_tells}
-use Rattle.flash_dev.specs.Flash.{Torn}
 use Rattle.ec_types.specs.LittleEndian.{u32_at}
-use Rattle.ec_model.specs.Stored.{AtBoot, no_bits, bits_of_word, has_mark, has_mark1, has_mark2, slot_count, slot, is_counting, is_blank, bits_among, next_among, next_slot, has_place, stored_in}
+use Rattle.ec_model.specs.Stored.{AtBoot, bits_of_word, has_mark, has_mark2, slot_count, slot, is_counting, is_blank, bits_among, next_among, next_slot, has_place, stored_in}
 use Rattle.ec_model.proofs.GuardSteps.{and_parts}
 
 -- the records end a kilobyte behind the block's start

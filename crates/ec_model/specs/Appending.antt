@@ -6,7 +6,7 @@ use Rattle.ec_model.specs.Commands.{FlashProtect}
 use Rattle.ec_model.specs.Stored.{stored, stored_block, has_place}
 use Rattle.ec_model.specs.Table.{Table, Awake, On, core_of}
 use Rattle.ec_model.specs.ProtectRow.{wanted}
-use Rattle.ec_model.specs.Handle.{Admitted, asked}
+use Rattle.ec_model.specs.Handle.{asked}
 use Rattle.ec_model.specs.Work.{Serve, work_on}
 
 -- an event has a controller that is on serve a FLASH_PROTECT that passes the checks, with this mask and these flags

@@ -5,8 +5,8 @@ use Rattle.ec_types.specs.declared.reset.ResetCause.TheVariants.{PowerOn, Cold}
 use Rattle.ec_model.specs.declared.event.Event.{Event}
 use Rattle.ec_model.specs.declared.event.Entry.{Entry}
 use Rattle.ec_model.specs.declared.event.Entry.TheVariants.{Step, Mark}
-use Rattle.ec_model.specs.declared.event.Hurt.{Hurt}
-use Rattle.ec_model.specs.declared.event.Hurt.TheVariants.{Whole, Failed, Cut}
+use Rattle.flash_dev.specs.declared.hurt.Hurt.{Hurt}
+use Rattle.flash_dev.specs.declared.hurt.Hurt.TheVariants.{Whole, Failed, Cut}
 use Rattle.ec_model.specs.Packet.{response_packet}
 use Rattle.ec_model.specs.Bus.{BusState, BusAnswer, replied, kind_of}
 use Rattle.ec_model.specs.Table.{Table, Power, Off, On, Core, core_of, table_of, off_table}

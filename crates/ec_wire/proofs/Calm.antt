@@ -11,8 +11,8 @@ use Rattle.ec_model.specs.declared.event.Event.{Event}
 use Rattle.ec_model.specs.declared.event.Event.TheVariants.{Access as AccessEvent, Tick, Reset, Power as PowerEvent, Pin as PinEvent}
 use Rattle.ec_model.specs.declared.event.Entry.{Entry}
 use Rattle.ec_model.specs.declared.event.Entry.TheVariants.{Step, Mark}
-use Rattle.ec_model.specs.declared.event.Hurt.{Hurt}
-use Rattle.ec_model.specs.declared.event.Hurt.TheVariants.{Whole, Failed, Cut}
+use Rattle.flash_dev.specs.declared.hurt.Hurt.{Hurt}
+use Rattle.flash_dev.specs.declared.hurt.Hurt.TheVariants.{Whole, Failed, Cut}
 use Rattle.ec_model.specs.Upset.{access_byte, event_byte, is_world, is_world_event, is_changed, is_whole, is_hurt, is_cut_entry, is_upset, IsUndisturbed}
 use Rattle.ec_model.specs.HostCalls.{HostCall, with_byte, call_before, calls_of}
 use Rattle.ec_wire.specs.Calls.{WireView, RoseBy, Grows, is_failed_entry, is_wire_step}

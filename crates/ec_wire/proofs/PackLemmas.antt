@@ -7,8 +7,8 @@ use Rattle.ec_model.specs.declared.event.Event.{Event}
 use Rattle.ec_model.specs.declared.event.Event.TheVariants.{Access as AccessEvent, Tick, Reset, Power as PowerEvent, Pin as PinEvent}
 use Rattle.ec_model.specs.declared.event.WorldReset.TheVariants.{Pin, Watchdog}
 use Rattle.ec_model.specs.declared.event.Entry.TheVariants.{Step}
-use Rattle.ec_model.specs.declared.event.Hurt.{Hurt}
-use Rattle.ec_model.specs.declared.event.Hurt.TheVariants.{Whole, Failed, Cut}
+use Rattle.flash_dev.specs.declared.hurt.Hurt.{Hurt}
+use Rattle.flash_dev.specs.declared.hurt.Hurt.TheVariants.{Whole, Failed, Cut}
 use Rattle.ec_model.specs.Upset.{event_byte}
 use Rattle.ec_wire.specs.Packing.{event_number, hurt_number, event_port, numbered_event, numbered_hurt, unpacked}
 

@@ -9,8 +9,8 @@ use Rattle.ec_model.specs.HostCalls.{HostCall, with_byte, calls_of, are_calls, o
 use Rattle.ec_model.specs.declared.event.Event.TheVariants.{Access as AccessEvent, Tick}
 use Rattle.ec_model.specs.declared.event.Entry.{Entry}
 use Rattle.ec_model.specs.declared.event.Entry.TheVariants.{Step, Mark}
-use Rattle.ec_model.specs.declared.event.Hurt.{Hurt}
-use Rattle.ec_model.specs.declared.event.Hurt.TheVariants.{Failed}
+use Rattle.flash_dev.specs.declared.hurt.Hurt.{Hurt}
+use Rattle.flash_dev.specs.declared.hurt.Hurt.TheVariants.{Failed}
 use Rattle.ec_model.specs.Table.{Table, Valid, is_on}
 use Rattle.ec_model.specs.Run.{IsRun}
 use Rattle.ec_model.specs.Upset.{access_byte, is_world, is_changed, is_cut_entry}

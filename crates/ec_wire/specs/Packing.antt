@@ -8,8 +8,8 @@ use Rattle.ec_model.specs.declared.event.Event.TheVariants.{Access as AccessEven
 use Rattle.ec_model.specs.declared.event.WorldReset.TheVariants.{Pin, Watchdog}
 use Rattle.ec_model.specs.declared.event.Entry.{Entry}
 use Rattle.ec_model.specs.declared.event.Entry.TheVariants.{Step, Mark}
-use Rattle.ec_model.specs.declared.event.Hurt.{Hurt}
-use Rattle.ec_model.specs.declared.event.Hurt.TheVariants.{Whole, Failed, Cut}
+use Rattle.flash_dev.specs.declared.hurt.Hurt.{Hurt}
+use Rattle.flash_dev.specs.declared.hurt.Hurt.TheVariants.{Whole, Failed, Cut}
 use Rattle.ec_wire.specs.declared.packed.Packed.{Packed}
 
 -- the number of an access

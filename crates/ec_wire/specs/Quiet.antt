@@ -4,7 +4,7 @@ use Rattle.flash_dev.specs.Counts.{Rose}
 use Rattle.ec_model.specs.declared.event.Event.TheVariants.{Access as AccessEvent, Tick}
 use Rattle.ec_model.specs.declared.event.Entry.{Entry}
 use Rattle.ec_model.specs.declared.event.Entry.TheVariants.{Step}
-use Rattle.ec_model.specs.declared.event.Hurt.TheVariants.{Whole}
+use Rattle.flash_dev.specs.declared.hurt.Hurt.TheVariants.{Whole}
 use Rattle.ec_model.specs.HostCalls.{HostCall, Did, Waited}
 use Rattle.ec_model.specs.Upset.{access_byte}
 use Rattle.ec_wire.specs.Calls.{WireView}

@@ -7,8 +7,8 @@ use Rattle.ec_model.specs.declared.event.Event.{Event}
 use Rattle.ec_model.specs.declared.event.Event.TheVariants.{Access, Tick, Reset, Power as PowerEvent, Pin}
 use Rattle.ec_model.specs.declared.event.Entry.{Entry}
 use Rattle.ec_model.specs.declared.event.Entry.TheVariants.{Step, Mark}
-use Rattle.ec_model.specs.declared.event.Hurt.{Hurt}
-use Rattle.ec_model.specs.declared.event.Hurt.TheVariants.{Whole, Failed, Cut}
+use Rattle.flash_dev.specs.declared.hurt.Hurt.{Hurt}
+use Rattle.flash_dev.specs.declared.hurt.Hurt.TheVariants.{Whole, Failed, Cut}
 use Rattle.ec_model.specs.Bus.{BusAnswer}
 use Rattle.ec_model.specs.HostCalls.{on_after, on_after_entry, on_after_event}
 use Rattle.ec_model.specs.Answer.{Outcome, Answered, Restarts}

@@ -3,7 +3,7 @@ use Rattle.std.proofs.Common.{◌≡◌, refl, sym, ap, ◌∙◌, subst, ℕ, �
 use Rattle.ec_model.specs.declared.event.Entry.{Entry}
 use Rattle.ec_model.specs.declared.event.Entry.TheVariants.{Step, Mark}
 use Rattle.ec_model.specs.declared.event.Event.{Event}
-use Rattle.ec_model.specs.declared.event.Hurt.{Hurt}
+use Rattle.flash_dev.specs.declared.hurt.Hurt.{Hurt}
 use Rattle.ec_model.specs.HostCalls.{on_after_entry}
 use Rattle.ec_model.specs.Table.{Table, is_on}
 use Rattle.ec_model.specs.Run.{IsRun}

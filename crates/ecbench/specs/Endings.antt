@@ -20,8 +20,8 @@ use Rattle.ec_model.specs.Guarded.{KeepsPin, RunsGuarded, guarded_bytes}
 use Rattle.ec_model.specs.declared.event.Entry.{Entry}
 use Rattle.ec_model.specs.declared.event.Entry.TheVariants.{Step}
 use Rattle.ec_model.specs.declared.event.Event.TheVariants.{Power}
-use Rattle.ec_model.specs.declared.event.Hurt.{Hurt}
-use Rattle.ec_model.specs.declared.event.Hurt.TheVariants.{Whole, Cut}
+use Rattle.flash_dev.specs.declared.hurt.Hurt.{Hurt}
+use Rattle.flash_dev.specs.declared.hurt.Hurt.TheVariants.{Whole, Cut}
 use Rattle.ec_wire.specs.Calls.{is_wire_step}
 use Rattle.ec_wire.specs.Quiet.{quiet_entry}
 use Rattle.host_runs.specs.Calm.{CallsLead}

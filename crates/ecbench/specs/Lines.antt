@@ -8,7 +8,7 @@ use Rattle.ec_model.specs.declared.event.Event.{Event}
 use Rattle.ec_model.specs.declared.event.Event.TheVariants as event
 use Rattle.ec_model.specs.declared.event.Entry.{Entry}
 use Rattle.ec_model.specs.declared.event.Entry.TheVariants.{Step, Mark}
-use Rattle.ec_model.specs.declared.event.Hurt.{Hurt}
+use Rattle.flash_dev.specs.declared.hurt.Hurt.{Hurt}
 use Rattle.ec_model.specs.HostCalls.{HostCall}
 use Rattle.ec_model.specs.Upset.{is_world, is_changed}
 use Rattle.host_transport.specs.Once.{Ending}

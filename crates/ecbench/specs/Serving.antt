@@ -3,8 +3,8 @@ use Rattle.std.specs.Prelude.{◌≡◌, ◌⊎◌, ℕ, true, List, [], codes, 
 use Rattle.ec_model.specs.declared.event.Entry.{Entry}
 use Rattle.ec_model.specs.declared.event.Entry.TheVariants.{Step, Mark}
 use Rattle.ec_model.specs.declared.event.Event.{Event}
-use Rattle.ec_model.specs.declared.event.Hurt.{Hurt}
-use Rattle.ec_model.specs.declared.event.Hurt.TheVariants.{Cut}
+use Rattle.flash_dev.specs.declared.hurt.Hurt.{Hurt}
+use Rattle.flash_dev.specs.declared.hurt.Hurt.TheVariants.{Cut}
 use Rattle.ec_model.specs.declared.event.WorldEvent.{WorldEvent}
 use Rattle.ec_wire.specs.Calls.{WireView, with_spare}
 use Rattle.bench_wire.specs.Adding.{Adds, Extends, Happens as HappensNow}

@@ -1,2 +1,4 @@
 pub mod Programming
 pub mod Overwriting
+pub mod Accounting
+pub mod Beginning

@@ -1,5 +1,5 @@
 -- What contracts see of a flash in memory.
-use Rattle.std.specs.Prelude.{ℕ, List, length, Some}
+use Rattle.std.specs.Prelude.{ℕ, List, length, Some, None}
 use Rattle.flash_dev.specs.Calls.{Calls}
 use Rattle.flash_dev.specs.Device.{DeviceView}
 
@@ -10,14 +10,17 @@ pub record MemoryState : Type 0 where
   pub wear : ℕ
   pub fetched : ℕ
 
--- the same as a device: the bytes are told, and power is never lost
+-- the same as a device: the bytes are told, each operation that is begun is wear, and power is never lost
 abbrev pub memory_device : MemoryState → DeviceView
 memory_device memory = record {
   held = Some memory.bytes;
   extent = length memory.bytes;
   faults = memory.calls.faults;
   cuts = 0;
+  own_cuts = 0;
   refusals = memory.calls.faults;
+  begun = memory.wear;
+  armed = None;
   wear = memory.wear;
   fetched = memory.fetched;
 }

@@ -3,6 +3,7 @@ ghost use Rattle.std.specs.Prelude.{◌≡◌, ◌≤◌, ◌<◌, ◌+◌, ◌*
 ghost use Rattle.flash_dev.specs.Flash.{and_bytes, programmed, erased, block_size, Torn};
 ghost use Rattle.flash_dev.specs.Counts.{raised_by};
 ghost use Rattle.flash_dev.specs.Calls.{no_calls, is_next_failing, after_call};
+ghost use Rattle.flash_dev.specs.Operations.{Program, Erase};
 ghost use Rattle.flash_dev.specs.Device.{IsRead, IsChange};
 ghost use Rattle.flash_dev.specs.Memory.{memory_device};
 ghost use Rattle.flash_dev.specs.Told.{told_is_whole};
@@ -112,7 +113,7 @@ impl FlashDev for MemFlash {
         requires some { 4 ≤ length bytes.now }
         requires short { length bytes.now ≤ 64 }
         requires inside { at + length bytes.now ≤ length self.old.bytes }
-        ensures change { IsChange at (length bytes.now) (programmed at bytes.now) (memory_device self.old) (memory_device self.new) result }
+        ensures change { IsChange (Program at bytes.now) (memory_device self.old) (memory_device self.new) result }
         ensures exact { is_err result ≡ is_next_failing self.old.calls }
         ensures state { self.new ≡ record {
           bytes = if is_err result then self.old.bytes else programmed at bytes.now self.old.bytes;
@@ -128,7 +129,7 @@ impl FlashDev for MemFlash {
 
     fn erase(&mut self, block: u32) -> Result<(), DevErr>
         requires { block * block_size + block_size ≤ length self.old.bytes }
-        ensures change { IsChange (block * block_size) block_size (erased block) (memory_device self.old) (memory_device self.new) result }
+        ensures change { IsChange (Erase block) (memory_device self.old) (memory_device self.new) result }
         ensures exact { is_err result ≡ is_next_failing self.old.calls }
         ensures state { self.new ≡ record {
           bytes = if is_err result then self.old.bytes else erased block self.old.bytes;

@@ -4,7 +4,10 @@ use Rattle.flash_dev.specs.Flash.{block_size}
 use Rattle.flash_dev.specs.Counts.{Rose, raised_by}
 use Rattle.flash_dev.specs.Device.{DeviceView}
 use Rattle.flash_dev.specs.declared.device.DevErr.{DevErr}
-use Rattle.flash_dev.specs.declared.device.DevErr.TheVariants.{Failed}
+use Rattle.flash_dev.specs.declared.device.DevErr.TheVariants.{Failed as FailedErr}
+use Rattle.flash_dev.specs.declared.hurt.Hurt.{Hurt}
+use Rattle.flash_dev.specs.declared.hurt.Hurt.TheVariants.{Whole, Failed}
+use Rattle.flash_dev.specs.Costs.{Account, hurt_by}
 use Rattle.ec_types.specs.declared.image.ImageCopy.TheVariants.{Ro}
 use Rattle.ec_model.specs.declared.live.HashView.TheVariants.{Idle}
 use Rattle.ec_model.specs.declared.live.ProtectView.{ProtectView}
@@ -23,7 +26,10 @@ pub record IsLookedAt (unread : Bool) (old new : DeviceView) : Type 0 where
   pub faults : old.faults ≤ new.faults
   pub failed : IsTrue unread → Rose old.faults new.faults
   pub cuts : old.cuts ≤ new.cuts
+  pub own_cuts : old.own_cuts ≤ new.own_cuts
   pub refusals : new.refusals ≡ (if unread then raised_by 1 old.refusals else old.refusals)
+  pub begun : new.begun ≡ old.begun
+  pub armed : new.armed ≡ old.armed
   pub wear : new.wear ≡ old.wear
   pub fetched : new.fetched ≡ raised_by stored_length old.fetched
 
@@ -97,15 +103,21 @@ pub record IsSet (mask flags : ℕ) (pin : Bool) (old : Protect) (before : List 
   pub begun : range ≡ covering (protect_operations (core_with old pin before) mask flags)
 
 -- an operation of FLASH_PROTECT did not end, and no lock was set
-pub record IsStoppedIn (mask flags : ℕ) (pin : Bool) (old : Protect) (before : List ℕ) (new : Protect) (after : List ℕ) (range : ℕ × ℕ) : Type 0 where
+pub record IsStoppedIn (hurt : Hurt) (mask flags : ℕ) (pin : Bool) (device changed : DeviceView) (old : Protect) (before : List ℕ) (new : Protect) (after : List ℕ) (range : ℕ × ℕ) : Type 0 where
   pub place : ℕ
   pub stops : StopsAt place (protect_operations (core_with old pin before) mask flags) before after
+  pub account : Account (suc place) hurt (protect_operations (core_with old pin before) mask flags) device changed before after
   pub begun : Some range ≡ covering (take (suc place) (protect_operations (core_with old pin before) mask flags))
   pub same : new ≡ old
 
 -- what FLASH_PROTECT makes of the protection and the flash, the range of the operations that were begun, and its answer
-abbrev pub Sets : ℕ → ℕ → Bool → Protect → List ℕ → Protect → List ℕ → Option (ℕ × ℕ) → Result ProtectView DevErr → Type 0
-Sets mask flags pin old before new after range (Ok view) = IsSet mask flags pin old before new after range view
+abbrev pub Sets : ℕ → ℕ → Bool → DeviceView → DeviceView → Protect → List ℕ → Protect → List ℕ → Option (ℕ × ℕ) → Result ProtectView DevErr → Type 0
+Sets mask flags pin device changed old before new after range (Ok view) =
+    let operations : List Operation = protect_operations (core_with old pin before) mask flags in
+    IsSet mask flags pin old before new after range view × Account (length operations) Whole operations device changed before after
 -- the stored bits could not be read
-Sets mask flags pin old before new after None (Err error) = (error ≡ Failed) × (after ≡ before) × (new ≡ old)
-Sets mask flags pin old before new after (Some range) (Err error) = IsStoppedIn mask flags pin old before new after range
+Sets mask flags pin device changed old before new after None (Err error) =
+    (error ≡ FailedErr) × (after ≡ before) × (new ≡ old)
+    × Account 0 Failed (protect_operations (core_with old pin before) mask flags) device changed before after
+Sets mask flags pin device changed old before new after (Some range) (Err error) =
+    IsStoppedIn (hurt_by error) mask flags pin device changed old before new after range

@@ -5,7 +5,8 @@ ghost use Rattle.flash_ctl.specs.Locks.{no_locks};
 ghost use Rattle.ec_model.specs.Boot.{boots_ro_locked, boots_all_locked};
 ghost use Rattle.ec_model.specs.Stored.{stored};
 ghost use Rattle.ec_model.specs.ProtectRow.{protect_operations, protect_view, locks_set};
-ghost use Rattle.ec_model.specs.Spent.{Costs, RisesAtMost, hurt_of};
+ghost use Rattle.flash_dev.specs.Costs.{Costs, hurt_of};
+ghost use Rattle.flash_dev.specs.Counts.{RisesAtMost};
 ghost use Rattle.flash_protect.specs.Locking.{Locks, GrowsTo};
 ghost use Rattle.flash_protect.specs.Setting.{IsLookedAt, IsPlaceIn, IsRangeIn, Sets, record_place, core_with};
 ghost use Rattle.ec_model.specs.Appending.{AddsRecord};
@@ -115,14 +116,13 @@ impl Protect {
         requires bits { IfSome ctl.old.device.held (λ flash. stored flash ≡ found.bits) }
         requires place { IfSome ctl.old.device.held (λ flash. record_place flash ≡ found.place) }
         requires inside { IsPlaceIn (ctl.old.device.extent / 2 - 4096) found.place }
-        ensures told { Changes (λ before after. Sets mask flags pin self.old before self.new after result.0 result.1) ctl.old.device.held ctl.new.device.held }
+        ensures told { Changes (λ before after. Sets mask flags pin ctl.old.device ctl.new.device self.old before self.new after result.0 result.1) ctl.old.device.held ctl.new.device.held }
         ensures grows { GrowsTo pin self.old self.new }
         // A mask of 0 changes nothing.
         ensures idle { mask ≡ 0 → (self.new ≡ self.old) × IsNone result.0 }
         ensures locks { Locks self.new ctl.new }
         ensures range { IfSome result.0 (IsRangeIn (ctl.old.device.extent / 2 - 4096)) }
         ensures none { IsNone result.0 → ctl.new.device.wear ≡ ctl.old.device.wear }
-        ensures wear { IfSome ctl.old.device.held (λ flash. RisesAtMost (length (protect_operations (core_with self.old pin flash) mask flags)) ctl.old.device.wear ctl.new.device.wear) }
         ensures most { RisesAtMost 4 ctl.old.device.wear ctl.new.device.wear }
         ensures spent { Costs (hurt_of result.1) 0 ctl.old.device ctl.new.device }
     {
@@ -150,7 +150,7 @@ impl Protect {
         flags: u32,
     ) -> (Option<(u32, u32)>, Result<ProtectView, DevErr>)
         requires { Locks self.old ctl.old }
-        ensures told { Changes (λ before after. Sets mask flags pin self.old before self.new after result.0 result.1) ctl.old.device.held ctl.new.device.held }
+        ensures told { Changes (λ before after. Sets mask flags pin ctl.old.device ctl.new.device self.old before self.new after result.0 result.1) ctl.old.device.held ctl.new.device.held }
         ensures grows { GrowsTo pin self.old self.new }
         // A mask of 0 changes nothing.
         ensures idle { mask ≡ 0 → (self.new ≡ self.old) × IsNone result.0 }
@@ -159,7 +159,6 @@ impl Protect {
         ensures whole { Changes (AddsRecord mask flags) ctl.old.device.held ctl.new.device.held }
         ensures range { IfSome result.0 (IsRangeIn (ctl.old.device.extent / 2 - 4096)) }
         ensures none { IsNone result.0 → ctl.new.device.wear ≡ ctl.old.device.wear }
-        ensures wear { IfSome ctl.old.device.held (λ flash. RisesAtMost (length (protect_operations (core_with self.old pin flash) mask flags)) ctl.old.device.wear ctl.new.device.wear) }
         ensures most { RisesAtMost 4 ctl.old.device.wear ctl.new.device.wear }
         ensures spent { Costs (hurt_of result.1) 1024 ctl.old.device ctl.new.device }
     {

@@ -1,15 +1,16 @@
 // The stored bits: how they are read, and how they are stored.
 ghost use Rattle.std.specs.Prelude.{◌≡◌, ◌+◌, ◌*◌, ◌/◌, ◌%◌, ◌^◌, ◌<◌, ◌-◌, ◌≤◌, is_err, length, take, Some, None, IfOk, IfSome, IsTrue};
-ghost use Rattle.flash_dev.specs.Flash.{block_size, programmed, erased};
+ghost use Rattle.flash_dev.specs.Flash.{block_size};
 ghost use Rattle.flash_dev.specs.Device.{IsChange};
 ghost use Rattle.flash_dev.specs.Told.{Changes};
 ghost use Rattle.flash_dev.specs.Ranges.{is_flash_size};
-ghost use Rattle.flash_dev.specs.Operations.{Began};
+ghost use Rattle.flash_dev.specs.Operations.{Program, Erase};
 ghost use Rattle.flash_ctl.specs.Locks.{no_locks};
 ghost use Rattle.ec_model.specs.declared.live.AtBoot.{AtBoot};
 ghost use Rattle.ec_model.specs.Stored.{stored};
 ghost use Rattle.ec_model.specs.ProtectRow.{record_operations};
-ghost use Rattle.ec_model.specs.Spent.{Costs, RisesAtMost, hurt_of};
+ghost use Rattle.flash_dev.specs.Costs.{Costs, HasBegun, hurt_of};
+ghost use Rattle.flash_dev.specs.Counts.{RisesAtMost};
 ghost use Rattle.flash_protect.specs.Setting.{IsLookedAt, IsPlaceIn, IsFew, IsRangeIn, record_place, operations_at, covering};
 
 use crate::block::{self, MARK, READ_LENGTH};
@@ -49,7 +50,7 @@ pub fn find<F: FlashDev>(ctl: &mut Ctl<F>) -> Result<Found, Failed>
 fn erase_free<F: FlashDev>(ctl: &mut Ctl<F>, block: u32) -> Result<(), DevErr>
     requires inside { block * block_size + block_size ≤ ctl.old.device.extent }
     requires free { ctl.old.locks ≡ no_locks }
-    ensures change { IsChange (block * block_size) block_size (erased block) ctl.old.device ctl.new.device result }
+    ensures change { IsChange (Erase block) ctl.old.device ctl.new.device result }
     ensures locks { ctl.new.locks ≡ no_locks }
 {
     match ctl.erase_block(block) {
@@ -67,7 +68,7 @@ fn program_free<F: FlashDev>(ctl: &mut Ctl<F>, at: u32, bytes: &[u8]) -> Result<
     requires short { length bytes.now ≤ 64 }
     requires inside { at + length bytes.now ≤ ctl.old.device.extent }
     requires free { ctl.old.locks ≡ no_locks }
-    ensures change { IsChange at (length bytes.now) (programmed at bytes.now) ctl.old.device ctl.new.device result }
+    ensures change { IsChange (Program at bytes.now) ctl.old.device ctl.new.device result }
     ensures locks { ctl.new.locks ≡ no_locks }
 {
     match ctl.program(at, bytes) {
@@ -87,7 +88,7 @@ fn write_record<F: FlashDev>(
     requires inside { place + 8 ≤ ctl.old.device.extent }
     requires small { place + 8 < 2 ^ 32 }
     requires free { ctl.old.locks ≡ no_locks }
-    ensures ran { Changes (λ before after. Began result.0 (record_operations place bits) before after result.1) ctl.old.device.held ctl.new.device.held }
+    ensures ran { Changes (HasBegun result.0 (record_operations place bits) ctl.old.device ctl.new.device result.1) ctl.old.device.held ctl.new.device.held }
     ensures some { 1 ≤ result.0 }
     ensures few { result.0 ≤ 2 }
     ensures locks { ctl.new.locks ≡ no_locks }
@@ -108,7 +109,7 @@ fn begin_anew<F: FlashDev>(ctl: &mut Ctl<F>, at: u32, bits: AtBoot) -> (u32, Res
     requires inside { at + block_size ≤ ctl.old.device.extent }
     requires small { at + block_size < 2 ^ 32 }
     requires free { ctl.old.locks ≡ no_locks }
-    ensures ran { Changes (λ before after. Began result.0 (operations_at at None bits) before after result.1) ctl.old.device.held ctl.new.device.held }
+    ensures ran { Changes (HasBegun result.0 (operations_at at None bits) ctl.old.device ctl.new.device result.1) ctl.old.device.held ctl.new.device.held }
     ensures some { 1 ≤ result.0 }
     ensures few { result.0 ≤ 4 }
     ensures locks { ctl.new.locks ≡ no_locks }
@@ -136,7 +137,7 @@ pub fn store<F: FlashDev>(
 ) -> (u32, Result<(), DevErr>)
     requires inside { IsPlaceIn (ctl.old.device.extent / 2 - 4096) place }
     requires free { ctl.old.locks ≡ no_locks }
-    ensures ran { Changes (λ before after. Began result.0 (operations_at (ctl.old.device.extent / 2 - 4096) place bits) before after result.1) ctl.old.device.held ctl.new.device.held }
+    ensures ran { Changes (HasBegun result.0 (operations_at (ctl.old.device.extent / 2 - 4096) place bits) ctl.old.device ctl.new.device result.1) ctl.old.device.held ctl.new.device.held }
     ensures some { 1 ≤ result.0 }
     ensures few { IsFew place result.0 }
     ensures locks { ctl.new.locks ≡ no_locks }

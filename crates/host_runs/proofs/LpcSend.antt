@@ -7,7 +7,7 @@ use Rattle.ec_model.specs.declared.event.Access.TheVariants.{PortOut, PortIn}
 use Rattle.ec_model.specs.declared.event.Event.{Event}
 use Rattle.ec_model.specs.declared.event.Event.TheVariants.{Tick}
 use Rattle.ec_model.specs.declared.event.Entry.TheVariants.{Step}
-use Rattle.ec_model.specs.declared.event.Hurt.TheVariants.{Whole}
+use Rattle.flash_dev.specs.declared.hurt.Hurt.TheVariants.{Whole}
 use Rattle.ec_model.specs.Packet.{response_packet, response_length}
 use Rattle.ec_model.specs.Bus.{kind_of, is_busy, low_status}
 use Rattle.ec_model.specs.HostCalls.{HostCall, Did}

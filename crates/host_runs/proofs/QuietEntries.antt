@@ -3,7 +3,7 @@ use Rattle.std.proofs.Common.{◌≡◌, refl, sym, ap, subst, ℕ, true, false,
 use Rattle.std.specs.List.{list_any}
 use Rattle.std.proofs.lemmas.Bool.Decides.{eqb_tells}
 use Rattle.ec_model.specs.declared.event.Event.TheVariants.{Access as AccessEvent, Tick}
-use Rattle.ec_model.specs.declared.event.Hurt.TheVariants.{Whole}
+use Rattle.flash_dev.specs.declared.hurt.Hurt.TheVariants.{Whole}
 use Rattle.ec_model.specs.HostCalls.{HostCall, Did, Waited, calls_of, are_calls}
 use Rattle.ec_model.specs.Bus.{BusAnswer}
 use Rattle.ec_model.specs.Upset.{access_byte, is_upset}

@@ -1,4 +1,4 @@
-use Rattle.std.proofs.Common.{◌∙◌, rules}
+use Rattle.std.proofs.Common.{◌∙◌, refl, rules}
 use Rattle.std.specs.Prelude.{◌≡◌, IfSome, [], ℕ, List, length, false}
 use Rattle.ec_model.specs.Erasing.{asked_job}
 use Rattle.ec_model.specs.FlashRows.{erase_refusal, asked_range}
@@ -16,6 +16,7 @@ returns-in-Some-clause-leaves g c =
     refused-told (λ core. erase_refusal core request) (λ core. Answered (record core { live = erasing (asked_job (asked_range request)) core.live }) 8 []) (λ core. false) (λ core. [])
     old old.device.extent c.in-Some.status c.refuse.new.self.status c.refuse.new.self.hurt c.refuse.new.self.body c.geometry.ensures.whole
     (λ core length_is live_is. c.in-Some.ensures.refusal core request (rw (c.size-size.ensures.size ∙ c.geometry.ensures.size) length_is) (rw c.live-live.ensures.live live_is) (erase-range c.args.at c.args.count (search rules) (search rules)))
+    (λ core refused. refl)
     c.refuse.ensures.hurt c.refuse.ensures.status c.refuse.ensures.body
 
 pub returns-in-None-clause-leaves : goal.returns-in-None-clause-leaves

@@ -1,12 +1,13 @@
-use Rattle.std.proofs.Common.{◌≡◌, ◌∙◌, ℕ, List, length, drop, refl, false, arith, rules}
-use Rattle.std.specs.Prelude.{IfSome}
+use Rattle.std.proofs.Common.{◌≡◌, ◌∙◌, ℕ, List, [], length, drop, refl, ap, false, arith, rules, Option, if◌then◌else◌}
+use Rattle.std.specs.Prelude.{IfSome, is_none}
+use Rattle.ec_model.specs.Operations.{pieces}
 use Rattle.ec_types.specs.LittleEndian.{u32_at}
 use Rattle.ec_model.specs.FlashRows.{write_refusal, write_operations, written}
 use Rattle.ec_model.specs.Answer.{done}
 use Rattle.ec_model.specs.Bodies.{flash_write_ask}
 use Rattle.ec_boot.specs.States.{RunView}
 use Rattle.command_table.proofs.RanLemmas.{has-bytes}
-use Rattle.command_table.proofs.RowLemmas.{refused-told, write-range, IsAllowed, allowed-from, ran-at, write-told, write-wears}
+use Rattle.command_table.proofs.RowLemmas.{refused-told, write-range, IsAllowed, allowed-from, ran-at, write-told}
 use Rattle.command_table.proofs.rows.flash_write.Goals as goal
 
 pub returns-in-Some-clause-leaves : goal.returns-in-Some-clause-leaves
@@ -16,6 +17,7 @@ returns-in-Some-clause-leaves g c =
     refused-told (λ core. write_refusal core c.args.version request) (λ core. done (written (u32_at 0 request) (drop 8 request) core)) (λ core. false) (λ core. write_operations core c.args.version request)
     old old.device.extent c.in-Some.status c.refuse.new.self.status c.refuse.new.self.hurt c.refuse.new.self.body c.geometry.ensures.whole
     (λ core length_is live_is. c.in-Some.ensures.refusal core request (rw (c.size-size.ensures.size ∙ c.geometry.ensures.size) length_is) (rw c.live-live.ensures.live live_is) (write-range c.args.at c.args.bytes.now (search rules) (omega (arith, c.requires))))
+    (λ core refused. ap (λ (r : Option ℕ). if is_none r then pieces (u32_at 0 request) (drop 8 request) else []) refused)
     c.refuse.ensures.hurt c.refuse.ensures.status c.refuse.ensures.body
 
 pub returns-in-None-clause-leaves : goal.returns-in-None-clause-leaves
@@ -33,16 +35,3 @@ returns-in-None-clause-leaves g c =
     write-told n c.args.version old new request c.write_pieces.result c.hurt_after-hurt.result c.end.new.self.hurt c.end.new.self.status c.end.new.self.body is sized
     (ran-at old new c.write_pieces.result c.args.at c.args.bytes.now (search rules) (λ count enough. c.write_pieces.ensures.ran count enough))
     c.hurt_after-hurt.ensures c.end.ensures.hurt c.end.ensures.status c.end.ensures.body
-
-pub returns-in-None-clause-wear : goal.returns-in-None-clause-wear
-returns-in-None-clause-wear g c =
-    let request : List ℕ = flash_write_ask c.args.at c.args.bytes.now in
-    let old : RunView = g.R.Running.run c.args.state.now in
-    let n : ℕ = c.size-size.result in
-    let sized : IfSome old.device.held (λ (f : List ℕ). length f ≡ n) = rw (c.size-size.ensures.size ∙ c.geometry.ensures.size) c.geometry.ensures.whole in
-    let may = c.in-None.ensures.allowed refl in
-    let is : IsAllowed n c.args.version old request =
-    allowed-from n c.args.version old c.args.at c.args.bytes.now (search rules) (omega (arith, c.requires))
-    (λ core body length_is live_is range_is. c.in-None.ensures.refusal core body length_is (rw c.live-live.ensures.live live_is) range_is)
-    may.units.some may.units.inside (has-bytes old.device.extent old.live.hash old.nonce c.live-live.ensures.valid.hash) in
-    write-wears n c.args.version old c.args.at (g.R.Running.run c.write_pieces.new.state).device.wear c.args.bytes.now is sized (search rules) (λ count enough. c.write_pieces.ensures.wear count enough)

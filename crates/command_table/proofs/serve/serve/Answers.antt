@@ -3,7 +3,7 @@ use Rattle.std.specs.Prelude.{is_some}
 use Rattle.ec_packet.specs.Read.{request_view}
 use Rattle.ec_model.specs.declared.live.Live.{Live}
 use Rattle.ec_model.specs.Handle.{admitted}
-use Rattle.command_table.proofs.ProtectLemmas.{passed-protect, found-told, found-wears}
+use Rattle.command_table.proofs.ProtectLemmas.{passed-protect, found-told}
 use Rattle.command_table.proofs.serve.serve.Goals as goal
 
 pub returns-in-Ok-FlashProtect-clause-leaves : goal.returns-in-Ok-FlashProtect-clause-leaves
@@ -14,12 +14,3 @@ returns-in-Ok-FlashProtect-clause-leaves g c =
     (λ core live_is. passed-protect request (admitted core request) is.field-0 is.ask is.field-0-is
     (is.ensures.admitted core (ap (λ (live : Live). is_some live.erase) (live_is ∙ sym c.live.ensures.live) ∙ sym c.is_some-erasing.ensures)))
     c.flash_protect.ensures.leaves
-
-pub returns-in-Ok-FlashProtect-clause-wear : goal.returns-in-Ok-FlashProtect-clause-wear
-returns-in-Ok-FlashProtect-clause-wear g c =
-    let is = c.in-Ok-FlashProtect in
-    let request = request_view c.args.request.now in
-    found-wears request is.ask.mask is.ask.flags (g.R.Running.run c.flash_protect.new.state).device.wear (g.R.Running.run c.args.state.now)
-    (λ core live_is. passed-protect request (admitted core request) is.field-0 is.ask is.field-0-is
-    (is.ensures.admitted core (ap (λ (live : Live). is_some live.erase) (live_is ∙ sym c.live.ensures.live) ∙ sym c.is_some-erasing.ensures)))
-    c.flash_protect.ensures.wear

@@ -22,7 +22,7 @@ returns c = record {
     record {
       begun = 3;
       step = (refl, refl);
-      falls = (omega arith, λ same. absurd (apart same));
+      falls = (omega arith, λ same. absurd (apart same.1));
       cause = tt;
       cut_is = refl;
       armed_is = refl;

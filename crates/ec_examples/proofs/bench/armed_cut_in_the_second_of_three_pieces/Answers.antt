@@ -1,7 +1,7 @@
 use Rattle.std.proofs.Common.{refl, [], ◌∷◌, replicate, Some, inl, arith}
 use Rattle.ec_model.specs.declared.event.Event.TheVariants.{Tick}
 use Rattle.ec_model.specs.declared.event.Entry.TheVariants.{Step}
-use Rattle.ec_model.specs.declared.event.Hurt.TheVariants.{Cut}
+use Rattle.flash_dev.specs.declared.hurt.Hurt.TheVariants.{Cut}
 use Rattle.ec_model.specs.Operations.{Program}
 use Rattle.ec_examples.specs.Waiting.{write_waits, torn_in_the_second}
 use Rattle.ec_examples.proofs.bench.armed_cut_in_the_second_of_three_pieces.Goals as goal
@@ -21,7 +21,7 @@ returns c = record {
       begun = 2;
       step = (record { place = 1; flash = torn_in_the_second; stops = record { stopped = Program 0x8040 (replicate 64 2); is_there = refl; torn = record { same_length = refl; before = refl; after = refl } }; leaves = refl }, refl);
       falls = (omega arith, λ same. (refl, record { stopped = Program 0x8040 (replicate 64 2); is_there = refl; leaves = inl refl }));
-      cause = inl refl;
+      cause = inl (omega arith, refl);
       cut_is = refl;
       armed_is = refl;
       faults_later = omega arith;

@@ -3,7 +3,7 @@ use Rattle.ec_types.specs.declared.bus.BusKind.TheVariants.{Lpc}
 use Rattle.ec_model.specs.declared.event.Access.TheVariants.{PortIn}
 use Rattle.ec_model.specs.declared.event.Event.TheVariants.{Access}
 use Rattle.ec_model.specs.declared.event.Entry.TheVariants.{Step}
-use Rattle.ec_model.specs.declared.event.Hurt.TheVariants.{Whole}
+use Rattle.flash_dev.specs.declared.hurt.Hurt.TheVariants.{Whole}
 use Rattle.ec_examples.specs.Flashes.{e64}
 use Rattle.ec_examples.specs.Events.{powered}
 use Rattle.ec_examples.proofs.bench.changed_byte_that_is_seen.Goals as goal

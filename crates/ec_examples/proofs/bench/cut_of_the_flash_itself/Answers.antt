@@ -3,7 +3,7 @@ use Rattle.ec_types.specs.declared.bus.BusKind.TheVariants.{Lpc}
 use Rattle.flash_dev.specs.Counts.{Rose}
 use Rattle.ec_model.specs.declared.event.Event.TheVariants.{Tick}
 use Rattle.ec_model.specs.declared.event.Entry.TheVariants.{Step}
-use Rattle.ec_model.specs.declared.event.Hurt.TheVariants.{Cut}
+use Rattle.flash_dev.specs.declared.hurt.Hurt.TheVariants.{Cut}
 use Rattle.ec_model.specs.Operations.{Program}
 use Rattle.ec_model.specs.Table.{Table, off_table}
 use Rattle.ec_model.specs.Bench.{unarmed}

@@ -3,7 +3,7 @@ use Rattle.std.specs.Prelude.{⊤}
 use Rattle.ec_model.specs.declared.event.Event.{Event}
 use Rattle.ec_model.specs.declared.event.Event.TheVariants.{Tick}
 use Rattle.ec_model.specs.declared.event.Entry.TheVariants.{Step}
-use Rattle.ec_model.specs.declared.event.Hurt.TheVariants.{Failed, Cut}
+use Rattle.flash_dev.specs.declared.hurt.Hurt.TheVariants.{Failed, Cut}
 use Rattle.ec_model.specs.declared.live.HashView.TheVariants.{Idle, Busy}
 use Rattle.ec_model.specs.Operations.{Erase}
 use Rattle.ec_model.specs.Table.{Table, Power, Off, On, core_of}
@@ -35,7 +35,7 @@ returns-clause-second c = record {
     record {
       begun = 1;
       step = inr (record { place = 0; flash = e64; stops = record { stopped = Erase 7; is_there = refl; torn = record { same_length = refl; before = refl; after = refl } }; leaves = refl }, refl);
-      falls = (omega arith, λ same. absurd (apart same));
+      falls = (omega arith, λ same. absurd (apart same.1));
       cause = omega arith;
       cut_is = refl;
       armed_is = refl;
@@ -61,13 +61,13 @@ read : (begun : ℕ) (table : Table) (event : Event) (power : Power) (after : Af
 read begun table event Off after none begins = tt
 read begun table event (On awake) after none (inl unread) = unread.1
 read begun table event (On awake) after none (inr failed) = absurd (some failed.0.place failed.1) where
-  some : (place : ℕ) → begun ≡ place + 1 → ⊥
+  some : (place : ℕ) → begun ≡ suc place → ⊥
   some place is = omega (arith, none, is)
 
 -- under a cut at the first operation none was begun, and a read that failed keeps the hash
 refuse : (cut : Option ArmedCut) (faults cuts : ℕ) → PlaysEntry (record (unarmed protect_waits 0 0) { cut = Some (record { left = 1; torn = [] }) }) Tick 0 0 0 Failed (record (unarmed protect_failed faults cuts) { cut = cut }) → ⊥
 refuse cut faults cuts plays =
-    let none = none_of plays.begun plays.falls.0 (λ same. whole (plays.falls.1 same).0) in
+    let none = none_of plays.begun plays.falls.0 (λ same. whole (plays.falls.1 (omega (arith, same), same)).0) in
     kept (ap (λ (after : After). shown_hash after.table.power) (read plays.begun protect_waits Tick protect_waits.power (record { table = protect_failed; answer = 0 }) none plays.step).leaves) where
       whole : Failed ≡ Cut → ⊥
       whole same = cc

@@ -7,7 +7,7 @@ use Rattle.ec_model.specs.declared.event.Event.{Event}
 use Rattle.ec_model.specs.declared.event.Event.TheVariants.{Access, Tick, Reset as ResetEvent, Power as PowerEvent}
 use Rattle.ec_model.specs.declared.event.Entry.{Entry}
 use Rattle.ec_model.specs.declared.event.Entry.TheVariants.{Step, Mark}
-use Rattle.ec_model.specs.declared.event.Hurt.TheVariants.{Whole}
+use Rattle.flash_dev.specs.declared.hurt.Hurt.TheVariants.{Whole}
 use Rattle.ec_model.specs.Table.{Table, off_table}
 use Rattle.ec_model.specs.Bench.{Armed, Bench, unarmed}
 use Rattle.ec_examples.specs.Flashes.{e64}

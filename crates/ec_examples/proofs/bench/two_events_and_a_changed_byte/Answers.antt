@@ -5,7 +5,7 @@ use Rattle.ec_model.specs.declared.event.WorldReset.TheVariants.{Pin as ByPin}
 use Rattle.ec_model.specs.declared.event.WorldEvent.TheVariants.{Reset}
 use Rattle.ec_model.specs.declared.event.Event.TheVariants.{Access, Pin as PinEvent}
 use Rattle.ec_model.specs.declared.event.Entry.TheVariants.{Step}
-use Rattle.ec_model.specs.declared.event.Hurt.TheVariants.{Whole}
+use Rattle.flash_dev.specs.declared.hurt.Hurt.TheVariants.{Whole}
 use Rattle.ec_model.specs.Bench.{Bench}
 use Rattle.ec_examples.specs.Flashes.{e64}
 use Rattle.ec_examples.specs.Events.{powered, table_after}

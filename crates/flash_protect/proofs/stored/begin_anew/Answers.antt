@@ -2,7 +2,7 @@ use Rattle.std.proofs.Common.{◌+◌, ◌/◌, ◌∷◌, sym, ◌∙◌}
 use Rattle.flash_dev.specs.Operations.{Program, Erase}
 use Rattle.ec_model.specs.Stored.{mark2_bytes}
 use Rattle.ec_model.specs.ProtectRow.{record_operations}
-use Rattle.flash_protect.proofs.StoringLemmas.{told-first, told-then, told-more}
+use Rattle.flash_dev.proofs.Beginning.{told-first, told-then, told-more}
 use Rattle.flash_protect.proofs.stored.begin_anew.Goals as goal
 
 pub returns-then-is_err-clause-ran : goal.returns-then-is_err-clause-ran

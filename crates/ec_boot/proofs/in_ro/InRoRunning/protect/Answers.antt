@@ -1,4 +1,4 @@
-use Rattle.ec_boot.proofs.ProtectLemmas.{protect-told, protect-wears, with_locks}
+use Rattle.ec_boot.proofs.ProtectLemmas.{protect-told, with_locks}
 use Rattle.ec_boot.proofs.OperatedLemmas.{run_of}
 use Rattle.ec_boot.proofs.KeepLemmas.{protect-guard}
 use Rattle.ec_boot.proofs.in_ro.InRoRunning.protect.Goals as goal
@@ -8,11 +8,6 @@ returns-clause-told g c =
     rw (← c.self.view_is)
     (protect-told c.args.mask c.args.flags c.self.inside.ctl c.set-range.new.ctl c.self.inside.pin c.self.inside.live c.set-range.new.self c.set-range.result.0 c.set-range.result.1
     c.self.invariant.hash c.set-range.ensures.grows.bad c.set-range.ensures.told)
-
-pub returns-clause-wear : goal.returns-clause-wear
-returns-clause-wear g c =
-    rw (← c.self.view_is)
-    (protect-wears c.args.mask c.args.flags c.self.inside.ctl c.set-range.new.ctl.device.wear c.self.inside.pin c.self.inside.live c.set-range.ensures.wear)
 
 pub returns-clause-guard : goal.returns-clause-guard
 returns-clause-guard g c =
