@@ -1,6 +1,12 @@
 // Which commands there are, and how packets pass.
 ghost use Rattle.std.specs.Prelude.{◌≡◌, ◌≤◌, ◌<◌, ◌+◌, ◌^◌, ◌++◌, ◌↔◌, ℕ, length, Some, IsSome, IfSome};
-ghost use Rattle.ec_model.specs.Bodies.{cmd_versions_ask0, cmd_versions_ask1, cmd_versions_say, comms_say, proto_info_say};
+ghost use Rattle.ec_model.specs.Bodies.{
+  cmd_versions_ask0,
+  cmd_versions_ask1,
+  cmd_versions_say,
+  comms_say,
+  proto_info_say,
+};
 
 use crate::columns::{Columns, put_u16, put_u32};
 use ec_packet::Packet;
@@ -73,6 +79,19 @@ pub struct CmdVersionsSay {
 }
 
 impl CmdVersionsSay {
+    /// The fields that 4 bytes spell.
+    pub fn of(bytes: &[u8]) -> Self
+        requires { length bytes.now ≡ 4 }
+        ensures spelled { bytes.now ≡ cmd_versions_say result.mask }
+        ensures back { (mask : ℕ) → mask < 2 ^ 32 → bytes.now ≡ cmd_versions_say mask →
+            result ≡ record { mask = mask } }
+    {
+        let mut columns = Columns::new(bytes);
+        CmdVersionsSay {
+            mask: columns.u32(),
+        }
+    }
+
     /// The fields that the bytes spell; None exactly where they are not 4 bytes.
     pub fn read(bytes: &[u8]) -> Option<Self>
         ensures some { IsSome result ↔ (length bytes.now ≡ 4) }
@@ -80,10 +99,11 @@ impl CmdVersionsSay {
         ensures back { (mask : ℕ) → mask < 2 ^ 32 → bytes.now ≡ cmd_versions_say mask →
             result ≡ Some (record { mask = mask }) }
     {
-        let mut columns = Columns::of(bytes, 4)?;
-        Some(CmdVersionsSay {
-            mask: columns.u32(),
-        })
+        if bytes.len() == 4 {
+            Some(CmdVersionsSay::of(bytes))
+        } else {
+            None
+        }
     }
 
     /// Appends the 4 bytes that spell the fields.
@@ -98,11 +118,14 @@ impl CmdVersionsSay {
 /// GET_COMMS_STATUS' reply.
 #[derive(Clone, Copy, Debug, PartialEq, Eq)]
 pub struct CommsSay {
-    /// Bit 0 is set while an erase is pending.
+    /// `PROCESSING` while an erase is pending.
     pub flags: u32,
 }
 
 impl CommsSay {
+    /// The bit that says that an erase is pending. EC_COMMS_STATUS_PROCESSING
+    pub const PROCESSING: u32 = 0x01;
+
     /// The fields that the bytes spell; None exactly where they are not 4 bytes.
     pub fn read(bytes: &[u8]) -> Option<Self>
         ensures some { IsSome result ↔ (length bytes.now ≡ 4) }
@@ -134,11 +157,40 @@ pub struct ProtoInfoSay {
     pub max_request: u16,
     /// The most bytes of a response packet.
     pub max_response: u16,
-    /// Bit 0: a busy controller may answer that it is in progress.
+    /// `IN_PROGRESS_SUPPORTED`, or 0.
     pub flags: u32,
 }
 
 impl ProtoInfoSay {
+    /// The mask of version 3 of the protocol, the one that is spoken.
+    pub const VERSION_3: u32 = 1 << 3;
+    /// A busy controller may answer that it is in progress. EC_PROTOCOL_INFO_IN_PROGRESS_SUPPORTED
+    pub const IN_PROGRESS_SUPPORTED: u32 = 0x01;
+
+    /// The fields that 12 bytes spell.
+    pub fn of(bytes: &[u8]) -> Self
+        requires { length bytes.now ≡ 12 }
+        ensures spelled { bytes.now ≡
+            proto_info_say result.versions result.max_request result.max_response result.flags }
+        ensures back { (versions max_request max_response flags : ℕ) →
+            versions < 2 ^ 32 → max_request < 2 ^ 16 → max_response < 2 ^ 16 → flags < 2 ^ 32 →
+            bytes.now ≡ proto_info_say versions max_request max_response flags →
+            result ≡ record {
+              versions = versions;
+              max_request = max_request;
+              max_response = max_response;
+              flags = flags;
+            } }
+    {
+        let mut columns = Columns::new(bytes);
+        ProtoInfoSay {
+            versions: columns.u32(),
+            max_request: columns.u16(),
+            max_response: columns.u16(),
+            flags: columns.u32(),
+        }
+    }
+
     /// The fields that the bytes spell; None exactly where they are not 12 bytes.
     pub fn read(bytes: &[u8]) -> Option<Self>
         ensures some { IsSome result ↔ (length bytes.now ≡ 12) }
@@ -154,13 +206,11 @@ impl ProtoInfoSay {
               flags = flags;
             }) }
     {
-        let mut columns = Columns::of(bytes, 12)?;
-        Some(ProtoInfoSay {
-            versions: columns.u32(),
-            max_request: columns.u16(),
-            max_response: columns.u16(),
-            flags: columns.u32(),
-        })
+        if bytes.len() == 12 {
+            Some(ProtoInfoSay::of(bytes))
+        } else {
+            None
+        }
     }
 
     /// Appends the 12 bytes that spell the fields.
