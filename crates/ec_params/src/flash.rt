@@ -107,7 +107,7 @@ pub struct FlashInfoSay1 {
 
 impl FlashInfoSay1 {
     /// The fields that 24 bytes spell.
-    pub fn of(bytes: &[u8]) -> Self
+    pub fn from_bytes(bytes: &[u8]) -> Self
         requires { length bytes.now ≡ 24 }
         ensures spelled { bytes.now ≡
             flash_info_say1 result.size result.write result.erase result.protect result.ideal result.flags }
@@ -152,7 +152,7 @@ impl FlashInfoSay1 {
             }) }
     {
         if bytes.len() == 24 {
-            Some(FlashInfoSay1::of(bytes))
+            Some(FlashInfoSay1::from_bytes(bytes))
         } else {
             None
         }

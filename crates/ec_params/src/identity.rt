@@ -75,7 +75,7 @@ pub struct ChipSay {
 
 impl ChipSay {
     /// The fields that 96 bytes spell.
-    pub fn of(bytes: &[u8]) -> Self
+    pub fn from_bytes(bytes: &[u8]) -> Self
         requires { length bytes.now ≡ 96 }
         ensures spelled { bytes.now ≡ chip_say result.vendor result.name result.revision }
         ensures back { (vendor name revision : List ℕ) →
@@ -101,7 +101,7 @@ impl ChipSay {
             result ≡ Some (record { vendor = vendor; name = name; revision = revision }) }
     {
         if bytes.len() == 96 {
-            Some(ChipSay::of(bytes))
+            Some(ChipSay::from_bytes(bytes))
         } else {
             None
         }

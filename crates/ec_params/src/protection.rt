@@ -52,7 +52,7 @@ pub struct FlashProtectSay {
 
 impl FlashProtectSay {
     /// The fields that 12 bytes spell.
-    pub fn of(bytes: &[u8]) -> Self
+    pub fn from_bytes(bytes: &[u8]) -> Self
         requires { length bytes.now ≡ 12 }
         ensures spelled { bytes.now ≡ flash_protect_say result.flags result.valid result.writable }
         ensures back { (flags valid writable : ℕ) → flags < 2 ^ 32 → valid < 2 ^ 32 → writable < 2 ^ 32 →
@@ -76,7 +76,7 @@ impl FlashProtectSay {
             result ≡ Some (record { flags = flags; valid = valid; writable = writable }) }
     {
         if bytes.len() == 12 {
-            Some(FlashProtectSay::of(bytes))
+            Some(FlashProtectSay::from_bytes(bytes))
         } else {
             None
         }
@@ -134,7 +134,7 @@ pub struct RegionInfoSay {
 
 impl RegionInfoSay {
     /// The fields that 8 bytes spell.
-    pub fn of(bytes: &[u8]) -> Self
+    pub fn from_bytes(bytes: &[u8]) -> Self
         requires { length bytes.now ≡ 8 }
         ensures spelled { bytes.now ≡ region_info_say result.offset result.size }
         ensures back { (offset size : ℕ) → offset < 2 ^ 32 → size < 2 ^ 32 → bytes.now ≡ region_info_say offset size →
@@ -155,7 +155,7 @@ impl RegionInfoSay {
             result ≡ Some (record { offset = offset; size = size }) }
     {
         if bytes.len() == 8 {
-            Some(RegionInfoSay::of(bytes))
+            Some(RegionInfoSay::from_bytes(bytes))
         } else {
             None
         }

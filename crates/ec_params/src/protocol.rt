@@ -80,7 +80,7 @@ pub struct CmdVersionsSay {
 
 impl CmdVersionsSay {
     /// The fields that 4 bytes spell.
-    pub fn of(bytes: &[u8]) -> Self
+    pub fn from_bytes(bytes: &[u8]) -> Self
         requires { length bytes.now ≡ 4 }
         ensures spelled { bytes.now ≡ cmd_versions_say result.mask }
         ensures back { (mask : ℕ) → mask < 2 ^ 32 → bytes.now ≡ cmd_versions_say mask →
@@ -100,7 +100,7 @@ impl CmdVersionsSay {
             result ≡ Some (record { mask = mask }) }
     {
         if bytes.len() == 4 {
-            Some(CmdVersionsSay::of(bytes))
+            Some(CmdVersionsSay::from_bytes(bytes))
         } else {
             None
         }
@@ -168,7 +168,7 @@ impl ProtoInfoSay {
     pub const IN_PROGRESS_SUPPORTED: u32 = 0x01;
 
     /// The fields that 12 bytes spell.
-    pub fn of(bytes: &[u8]) -> Self
+    pub fn from_bytes(bytes: &[u8]) -> Self
         requires { length bytes.now ≡ 12 }
         ensures spelled { bytes.now ≡
             proto_info_say result.versions result.max_request result.max_response result.flags }
@@ -207,7 +207,7 @@ impl ProtoInfoSay {
             }) }
     {
         if bytes.len() == 12 {
-            Some(ProtoInfoSay::of(bytes))
+            Some(ProtoInfoSay::from_bytes(bytes))
         } else {
             None
         }

@@ -1,7 +1,7 @@
 use Rattle.std.proofs.Common.{sym, ◌∙◌, [], ◌++◌, append_assoc}
 use Rattle.std.proofs.lemmas.List.{append-nil}
 use Rattle.ec_params.proofs.Texts.{text_first}
-use Rattle.ec_params.proofs.identity.ChipSay.of.Goals as goal
+use Rattle.ec_params.proofs.identity.ChipSay.from_bytes.Goals as goal
 
 pub returns-clause-back : goal.returns-clause-back
 returns-clause-back c = λ vendor name revision len0 len1 len2 same.
