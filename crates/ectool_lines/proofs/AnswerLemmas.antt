@@ -17,15 +17,15 @@ use Rattle.ec_model.specs.Upset.{is_upset, IsUndisturbed}
 use Rattle.ec_model.proofs.RunLaws.{run-valid, run-split}
 use Rattle.ec_model.proofs.ValidRows.{IsCoreValid}
 use Rattle.ec_wire.specs.Quiet.{quiet_entry}
-use Rattle.host_runs.specs.Exchange.{first_statuses, lpc_exchange, IsExchange}
-use Rattle.host_runs.specs.Served.{IsPlain, IsAnswer}
-use Rattle.host_runs.proofs.CalmRun.{calm_lead}
-use Rattle.host_runs.proofs.LpcSend.{bus-facts, settled-valid, lpc-calm}
-use Rattle.host_runs.specs.Calm.{CallsLead}
-use Rattle.host_runs.proofs.CalmRun.{calm_lead}
-use Rattle.host_runs.proofs.LpcExchange.{exchange-run}
-use Rattle.host_runs.proofs.Plain.{plain-answered}
-use Rattle.host_runs.proofs.Response.{eq-true}
+use Rattle.exchange_laws.specs.Exchange.{first_statuses, lpc_exchange, IsExchange}
+use Rattle.exchange_laws.specs.Served.{IsPlain, IsAnswer}
+use Rattle.exchange_laws.proofs.CalmRun.{calm_lead}
+use Rattle.exchange_laws.proofs.LpcSend.{bus-facts, settled-valid, lpc-calm}
+use Rattle.exchange_laws.specs.Calm.{CallsLead}
+use Rattle.exchange_laws.proofs.CalmRun.{calm_lead}
+use Rattle.exchange_laws.proofs.LpcExchange.{exchange-run}
+use Rattle.exchange_laws.proofs.Plain.{plain-answered}
+use Rattle.exchange_laws.proofs.Response.{eq-true}
 use Rattle.host_transport.specs.Once.{Ending, Said, ended, heard_as, Bad}
 use Rattle.ectool_lines.specs.declared.tool.Tool.{Tool}
 use Rattle.ectool_lines.specs.Tools.{IsInRange}

@@ -10,8 +10,8 @@ use Rattle.ec_model.specs.Answer.{Answered}
 use Rattle.ec_model.specs.Handle.{handled}
 use Rattle.ec_model.specs.Syncable.{settled}
 use Rattle.ec_wire.specs.Quiet.{quiet_entry}
-use Rattle.host_runs.specs.Calm.{CallsLead}
-use Rattle.host_runs.specs.Exchange.{first_statuses, lpc_exchange}
+use Rattle.exchange_laws.specs.Calm.{CallsLead}
+use Rattle.exchange_laws.specs.Exchange.{first_statuses, lpc_exchange}
 use Rattle.host_transport.specs.Once.{Ending, Said, NoPower}
 use Rattle.ectool_lines.specs.Requests.{Asked, packet_of}
 

@@ -22,15 +22,15 @@ use Rattle.ec_model.specs.Heard.{Heard, Silent}
 use Rattle.ec_model.specs.Syncable.{settled}
 use Rattle.ec_wire.specs.Calls.{WireView, Grows, Agrees}
 use Rattle.ec_wire.proofs.Calm.{or-false, calm_entry, undisturbed}
-use Rattle.host_runs.specs.Calm.{CallsLead}
-use Rattle.host_runs.specs.Exchange.{first_statuses, IsExchange}
-use Rattle.host_runs.specs.Served.{IsPlain, Serves, Settles}
-use Rattle.host_runs.proofs.CalmRun.{calm_lead}
-use Rattle.host_runs.proofs.LpcSend.{lpc-calm, lpc-quiet}
-use Rattle.host_runs.proofs.LpcExchange.{exchange-run}
-use Rattle.host_runs.proofs.LpcEnds.{lpc-ends}
-use Rattle.host_runs.proofs.OffLead.{lpc-off}
-use Rattle.host_runs.proofs.Rests.{ends-rest}
+use Rattle.exchange_laws.specs.Calm.{CallsLead}
+use Rattle.exchange_laws.specs.Exchange.{first_statuses, IsExchange}
+use Rattle.exchange_laws.specs.Served.{IsPlain, Serves, Settles}
+use Rattle.exchange_laws.proofs.CalmRun.{calm_lead}
+use Rattle.exchange_laws.proofs.LpcSend.{lpc-calm, lpc-quiet}
+use Rattle.exchange_laws.proofs.LpcExchange.{exchange-run}
+use Rattle.exchange_laws.proofs.LpcEnds.{lpc-ends}
+use Rattle.exchange_laws.proofs.OffLead.{lpc-off}
+use Rattle.exchange_laws.proofs.Rests.{ends-rest}
 use Rattle.host_framing.specs.Parts.{Sends, Quiets}
 use Rattle.host_framing.specs.Clean.{since, UndisturbedWhereCalm, ServesWhereCalm, SettlesWhereCalm, ExchangesWhereCalm, IsCaused, CausedWhereCalm, RestsBehind}
 

@@ -7,7 +7,7 @@ ghost use Rattle.ec_types.specs.declared.bus.BusKind.TheVariants.{Lpc as LpcKind
 ghost use Rattle.host_framing.specs.Parts.{PollsWaited, PollsSpaced, WritesPorts, ReadsPorts, LpcAsks, LpcHears, Quiets, Sends};
 ghost use Rattle.host_framing.specs.Heard.{heard_of};
 ghost use Rattle.host_framing.specs.Clean.{UndisturbedWhereCalm, ServesWhereCalm, SettlesWhereCalm, ExchangesWhereCalm, CausedWhereCalm, RestsBehind};
-ghost use Rattle.host_runs.specs.Served.{IsPlain};
+ghost use Rattle.exchange_laws.specs.Served.{IsPlain};
 
 use crate::calls::{Raw, did, judge, waited};
 use byteorder::{ByteOrder, LittleEndian};

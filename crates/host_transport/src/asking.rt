@@ -2,7 +2,7 @@
 ghost use Rattle.std.specs.Prelude.{◌≡◌, ◌≤◌, ◌+◌, length, drop, IsTrue};
 ghost use Rattle.ec_types.specs.declared.bus.BusKind.TheVariants.{Lpc as LpcKind};
 ghost use Rattle.ec_model.specs.Packet.{request_packet, is_response, response_view};
-ghost use Rattle.host_runs.specs.Served.{IsPlain};
+ghost use Rattle.exchange_laws.specs.Served.{IsPlain};
 ghost use Rattle.host_transport.specs.Once.{AsksOnce, said_by};
 ghost use Rattle.host_transport.specs.Ends.{ending_of};
 
