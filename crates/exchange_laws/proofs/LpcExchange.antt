@@ -24,7 +24,7 @@ use Rattle.ec_wire.specs.Quiet.{quiet_entry}
 use Rattle.ec_wire.proofs.Calm.{determined}
 use Rattle.exchange_laws.specs.Calm.{CallsLead}
 use Rattle.exchange_laws.specs.Served.{IsPlain}
-use Rattle.exchange_laws.specs.Exchange.{first_statuses, lpc_exchange, Exchanges, IsExchange}
+use Rattle.exchange_laws.specs.Exchange.{first_statuses, lpc_exchange_calls, Exchanges, IsExchange}
 use Rattle.exchange_laws.proofs.CalmRun.{calm_lead}
 use Rattle.exchange_laws.proofs.LpcLead.{lpc}
 use Rattle.exchange_laws.proofs.LpcFirst.{Idled}
@@ -33,7 +33,7 @@ use Rattle.exchange_laws.proofs.LpcSend.{served_calls, answers-by, hear-lead, co
 -- the calls, once each byte that they got is known
 exchange-is : (statuses request response gots : List ℕ) (got : ℕ) (first second : List ℕ) (outcome : ℕ) (bytes : List ℕ) →
     first ≡ statuses → gots ≡ replicate (length request) 0 → got ≡ 0 → second ≡ 0x01 ∷ [] → outcome ≡ low_status response → bytes ≡ response →
-    spaced_reads status_in first ++ served_calls request gots got second (Did (PortIn 0x200) outcome ∷ port_reads 0x800 bytes) ≡ lpc_exchange statuses request response
+    spaced_reads status_in first ++ served_calls request gots got second (Did (PortIn 0x200) outcome ∷ port_reads 0x800 bytes) ≡ lpc_exchange_calls statuses request response
 exchange-is statuses request response gots got first second outcome bytes first_are gots_are got_is second_is outcome_is bytes_are =
     let zeros = replicate (length request) 0 in
     let behind = Did (PortOut 0x204 0xDA) 0 ∷ Waited ∷ Did status_in 0x01 ∷ Did (PortIn 0x200) (low_status response) ∷ port_reads 0x800 response in

@@ -14,7 +14,7 @@ use Rattle.ec_model.specs.Handle.{handled}
 use Rattle.ec_model.specs.WholeStep.{after_outcome}
 use Rattle.exchange_laws.specs.Calm.{CallsLead}
 use Rattle.exchange_laws.specs.Served.{IsPlain}
-use Rattle.exchange_laws.specs.Exchange.{lpc_exchange}
+use Rattle.exchange_laws.specs.Exchange.{lpc_exchange_calls}
 use Rattle.exchange_laws.proofs.Lists.{overwritten-nil, overwritten-cons}
 use Rattle.exchange_laws.proofs.Response.{length-response}
 use Rattle.exchange_laws.proofs.LpcLead.{lpc, in_at, after_in_at, out_at}
@@ -64,7 +64,7 @@ left_window window packet response = overwritten 0 response (overwritten 0 packe
 
 -- the calls of a whole exchange
 pub exchange-goes : (core after : Core) (window : List ℕ) (status outcome : ℕ) (packet : List ℕ) (result : ℕ) (body : List ℕ) → length window ≡ 256 → is_busy status ≡ false → IsPlain packet → length packet ≤ 256 → handled core 256 packet ≡ Answered after result body → length body ≤ 248 →
-    CallsLead (table_of core (lpc window status outcome)) (lpc_exchange (status ∷ []) packet (response_packet result body)) (table_of after (lpc (left_window window packet (response_packet result body)) 0 (low_status (response_packet result body))))
+    CallsLead (table_of core (lpc window status outcome)) (lpc_exchange_calls (status ∷ []) packet (response_packet result body)) (table_of after (lpc (left_window window packet (response_packet result body)) 0 (low_status (response_packet result body))))
 exchange-goes core after window status outcome packet result body size idle plain short same fits =
     let reply = response_packet result body in
     let asked_window = overwritten 0 packet window in

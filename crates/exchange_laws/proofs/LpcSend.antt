@@ -25,7 +25,7 @@ use Rattle.ec_model.proofs.ShortRows.{IsShort}
 use Rattle.ec_model.proofs.ValidStep.{row_of-short}
 use Rattle.ec_model.proofs.ValidEvents.{step-valid}
 use Rattle.exchange_laws.specs.Calm.{CallsLead}
-use Rattle.exchange_laws.specs.Served.{IsPlain, IsAnswer, Serves, Settles}
+use Rattle.exchange_laws.specs.Served.{IsPlain, IsAnswer, ServesPacket, Settles}
 use Rattle.exchange_laws.proofs.Plain.{plain-answered}
 use Rattle.exchange_laws.proofs.Framed.{framing-append}
 use Rattle.exchange_laws.proofs.Response.{length-response, read-whole, heard-response}
@@ -187,13 +187,13 @@ asked-from table seen packet gots got statuses first ready tail new valid plain 
 -- the whole of a send that was served, from the settled table
 served-whole : (table : Table) (seen packet gots : List ℕ) (got : ℕ) (statuses : List ℕ) (first : Bool) (outcome : ℕ) (bytes : List ℕ) (heard : Heard) (new : Table) → Valid (settled table) → IsPlain packet → length packet ≤ 256 → length gots ≡ length packet → poll_end is_busy 4 statuses ≡ Some true →
     is_all_read (reads_on 248 bytes) bytes ≡ true → heard ≡ heard_if (reads_on 248 bytes) (heard_with outcome bytes) →
-    Idled table seen first (served_calls packet gots got statuses (Did (PortIn 0x200) outcome ∷ port_reads 0x800 bytes)) new → Serves packet (settled table) heard new
+    Idled table seen first (served_calls packet gots got statuses (Did (PortIn 0x200) outcome ∷ port_reads 0x800 bytes)) new → ServesPacket packet (settled table) heard new
 served-whole table seen packet gots got statuses first outcome bytes heard new valid plain short each polled all heard_is at =
     let asks = asked-from table seen packet gots got statuses first true (Did (PortIn 0x200) outcome ∷ port_reads 0x800 bytes) new valid plain short each polled at in
     let answers = asks.answers in
     let hears = hear-lead asks.after answers.window asks.status outcome asks.body answers.rest bytes heard new answers.size answers.front asks.short all heard_is answers.lead in
     let bus = lpc at.window at.status at.outcome in
-    let serves : Serves packet (table_of at.core bus) heard new =
+    let serves : ServesPacket packet (table_of at.core bus) heard new =
     record {
       awake = record { live = at.core.live; nonce = at.core.nonce; bus = bus };
       on = refl;
@@ -205,7 +205,7 @@ served-whole table seen packet gots got statuses first outcome bytes heard new v
       leaves = record { bus = lpc answers.window 0 (low_status (response_packet asks.status asks.body)); same = hears.leaves; none_waits = refl };
       kind = ap (λ (t : Table). t.kind) hears.leaves;
     } in
-    subst (λ (t : Table). Serves packet t heard new) (sym at.same) serves
+    subst (λ (t : Table). ServesPacket packet t heard new) (sym at.same) serves
 
 -- what a valid table that is on says of its bus
 pub record BusFacts (table : Table) (awake : Awake) : Type 0 where
@@ -246,7 +246,7 @@ served-made packet calls heard served =
 
 -- an undisturbed send is served on the settled table
 pub lpc-calm : (table : Table) (awake : Awake) (packet : List ℕ) (calls : List HostCall) (heard : Heard) (new : Table) → Valid table → table.power ≡ On awake → table.kind ≡ Lpc → IsPlain packet → length packet ≤ 256 →
-    LpcSend packet calls heard → CallsLead table calls new → Serves packet (settled table) heard new
+    LpcSend packet calls heard → CallsLead table calls new → ServesPacket packet (settled table) heard new
 lpc-calm table awake packet calls heard new valid on kind plain short (LpcWasBlocked blocked silent) lead =
     let at = idled-at table awake blocked.statuses false calls [] new valid on kind blocked.busy (blocked.made ∙ sym (append-nil (spaced_reads status_in blocked.statuses))) lead in
     absurd (let e : false ≡ true = at.ended in cc)

@@ -17,7 +17,7 @@ use Rattle.ec_model.proofs.ShortRows.{IsShort}
 use Rattle.ec_model.proofs.ValidStep.{row_of-short}
 use Rattle.ec_wire.specs.Quiet.{quiet_entry}
 use Rattle.exchange_laws.specs.Served.{IsPlain}
-use Rattle.exchange_laws.specs.Exchange.{lpc_exchange}
+use Rattle.exchange_laws.specs.Exchange.{lpc_exchange_calls}
 use Rattle.exchange_laws.specs.Transaction.{MakesTransaction, lpc_transaction}
 use Rattle.exchange_laws.proofs.Response.{length-response, response-named, heard-response, eq-true, fits}
 use Rattle.exchange_laws.proofs.LpcLead.{lpc}
@@ -50,7 +50,7 @@ response-heard result body short =
     sym (ap (λ (b : Bool). heard_if b (heard_with (low_status reply) reply)) (response-on result body short) ∙ heard-response result body (omega (arith, short)))
 
 -- the calls of an exchange are a send
-exchange-sends : (status result : ℕ) (packet body : List ℕ) → is_busy status ≡ false → length body ≤ 248 → LpcSend packet (lpc_exchange (status ∷ []) packet (response_packet result body)) (Reply (response_packet result body))
+exchange-sends : (status result : ℕ) (packet body : List ℕ) → is_busy status ≡ false → length body ≤ 248 → LpcSend packet (lpc_exchange_calls (status ∷ []) packet (response_packet result body)) (Reply (response_packet result body))
 exchange-sends status result packet body idle short =
     let reply = response_packet result body in
     let zeros = replicate (length packet) 0 in
@@ -73,10 +73,10 @@ entries-send packet calls heard sent = (quiet-are-calls calls, subst (λ (made :
 
 -- there is an exchange from a bus that is not busy
 makes-at : (core after : Core) (window : List ℕ) (status outcome : ℕ) (packet : List ℕ) (result : ℕ) (body : List ℕ) → Valid (table_of core (lpc window status outcome)) → is_busy status ≡ false → IsPlain packet → length packet ≤ 256 → handled core 256 packet ≡ Answered after result body →
-    MakesTransaction Lpc packet (response_packet result body) after (table_of core (lpc window status outcome)) (lpc_exchange (status ∷ []) packet (response_packet result body))
+    MakesTransaction Lpc packet (response_packet result body) after (table_of core (lpc window status outcome)) (lpc_exchange_calls (status ∷ []) packet (response_packet result body))
 makes-at core after window status outcome packet result body valid idle plain short same =
     let reply = response_packet result body in
-    let calls = lpc_exchange (status ∷ []) packet reply in
+    let calls = lpc_exchange_calls (status ∷ []) packet reply in
     let small : length body ≤ 248 = subst (λ (o : Outcome). IsShort o) same (row_of-short core (asked core packet) (core-valid core window status outcome valid)) in
     let bus = lpc (left_window window packet reply) 0 (low_status reply) in
     record {

@@ -10,7 +10,7 @@ use Rattle.ec_model.specs.Run.{IsRun}
 use Rattle.ec_model.specs.Send.{Exchange}
 use Rattle.ec_model.specs.Table.{Table, Power, Off, On, Core, table_of}
 use Rattle.ec_wire.specs.Quiet.{quiet_entry}
-use Rattle.exchange_laws.specs.Exchange.{lpc_status_seen, lpc_exchange}
+use Rattle.exchange_laws.specs.Exchange.{lpc_status_seen, lpc_exchange_calls}
 
 -- whether no transaction is under way: the controller is off, or its bus is at rest
 abbrev pub is_resting : Power → Bool
@@ -30,7 +30,7 @@ pub record IsTransacted (kind : BusKind) (request response : List ℕ) (core : C
 
 -- on LPC: the host sees the table's status once, and a request is exchanged for this response
 abbrev pub lpc_transaction : (request response : List ℕ) → Table → List HostCall
-lpc_transaction request response table = lpc_exchange (lpc_status_seen table ∷ []) request response
+lpc_transaction request response table = lpc_exchange_calls (lpc_status_seen table ∷ []) request response
 
 -- on I2C: the host writes a request, and reads the result byte, the length and this response
 abbrev pub i2c_transaction : (request response : List ℕ) → List HostCall

@@ -25,10 +25,12 @@ pub fn plain_requests()
     ensures spelled { (command version : ℕ) (body : List ℕ) → command < 2 ^ 16 → length body < 2 ^ 16 →
         IsFalse (is_cold (Ok (record { command = command; version = version; body = body }))) →
         IsPlain (request_packet command version body) }
-    ensures answered { (packet : List ℕ) (core : Core) (limit : ℕ) → IsPlain packet → IsAnswer (handled core limit packet) }
+    ensures answered { (packet : List ℕ) (core : Core) (limit : ℕ) → IsPlain packet →
+        IsAnswer (handled core limit packet) }
 {}
 
-/// A bus that is brought to rest, where nothing disturbs that, is at rest, from whatever state; and no request waits on it.
+/// A bus that is brought to rest, where nothing disturbs that, is at rest, from whatever state; and no request waits on
+/// it.
 pub fn quiets_rest()
     ensures rest { (kind : BusKind) (old : Table) (entries : List Entry) (new : Table) → Valid old → old.kind ≡ kind →
         Quiet kind entries → IsRun old entries new → IsUndisturbed entries → IsTrue (is_resting new.power) }
