@@ -1,4 +1,8 @@
 //! The controller's machine on LPC: what each access of the host does to it, and what it answers.
+//!
+//! It stands on `ec_wire`, whose trait `Bus` it meets, and knows neither the commands nor the flash: the controller
+//! takes the request that waits, and gives the response back. The contract that matters is the trait's: each access
+//! does and answers what `bus_step` says of the machine's state, which is just its fields (`lpc_state`).
 #![tactic(auto)]
 
 ghost use Rattle.std.specs.Prelude.{◌≡◌, ◌==◌, ◌<◌, refl};
@@ -7,14 +11,23 @@ ghost use Rattle.ec_model.specs.Bus.{OnLpc, is_busy, in_window, lpc_out, lpc_in,
 
 use ec_model::Access;
 use ec_packet::Packet;
-use ec_types::BusKind;
+use ec_types::{BusKind, COMMAND_PROTOCOL_3, lpc, status};
 use ec_wire::{Bus, Due};
 
-/// A window of 256 bytes at the ports 0x800 to 0x8FF, a status byte at 0x204 and a result byte at 0x200. The command byte
-/// 0xDA to 0x204 makes the whole window a request, which is due at a tick.
+// How many bytes the window has.
+const WINDOW_SIZE: usize = lpc::PACKET_SIZE as usize;
+
+// The first port behind the window.
+const WINDOW_END: u16 = lpc::PACKET_PORT + lpc::PACKET_SIZE;
+
+// What is read where nothing answers, and of the result while a request waits.
+const NOTHING: u8 = 0xFF;
+
+/// A window of 256 bytes at the ports 0x800 to 0x8FF, a status byte at 0x204 and a result byte at 0x200. The command
+/// byte 0xDA to 0x204 makes the whole window a request, which is due at a tick.
 #[derive(Drop)]
 pub struct Lpc {
-    window: [u8; 256],
+    window: [u8; WINDOW_SIZE],
     status: u8,
     outcome: u8,
 }
@@ -23,14 +36,14 @@ pub struct Lpc {
 fn busy(status: u8) -> bool
     ensures { result ≡ is_busy status }
 {
-    status & 0x06 != 0
+    status & lpc::BUSY_MASK != 0
 }
 
 // Whether a port is in the window.
 fn windowed(port: u16) -> bool
     ensures { result ≡ in_window port }
 {
-    port >= 0x800 && port < 0x900
+    port >= lpc::PACKET_PORT && port < WINDOW_END
 }
 
 impl Lpc {
@@ -44,32 +57,32 @@ impl Lpc {
             return;
         }
         if windowed(port) {
-            self.window[(port - 0x800) as usize] = byte;
-        } else if port == 0x204 {
-            if byte == 0xDA {
-                self.status = 0x06;
-                self.outcome = 0xFF;
+            self.window[(port - lpc::PACKET_PORT) as usize] = byte;
+        } else if port == lpc::COMMAND_PORT {
+            if byte == COMMAND_PROTOCOL_3 {
+                self.status = lpc::BUSY_MASK;
+                self.outcome = NOTHING;
             } else {
-                self.status = 0x01;
-                self.outcome = 1;
+                self.status = lpc::TO_HOST;
+                self.outcome = status::INVALID_COMMAND as u8;
             }
         }
     }
 
-    // A read of a port. One of the result byte takes the status bit 0x01 away.
+    // A read of a port. One of the result byte takes the bit `TO_HOST` away.
     fn read_port(&mut self, port: u16) -> u8
         ensures state { lpc_state self.new ≡ lpc_after_in (lpc_state self.old) port }
         ensures answer { result ≡ lpc_in (lpc_state self.old) port }
     {
         if windowed(port) {
-            self.window[(port - 0x800) as usize]
-        } else if port == 0x204 {
+            self.window[(port - lpc::PACKET_PORT) as usize]
+        } else if port == lpc::COMMAND_PORT {
             self.status
-        } else if port == 0x200 {
-            self.status &= 0xFE;
+        } else if port == lpc::DATA_PORT {
+            self.status &= !lpc::TO_HOST;
             self.outcome
         } else {
-            0xFF
+            NOTHING
         }
     }
 }
@@ -83,7 +96,7 @@ impl Bus for Lpc {
 
     fn fresh() -> Self {
         Lpc {
-            window: [0; 256],
+            window: [0; WINDOW_SIZE],
             status: 0,
             outcome: 0,
         }
@@ -100,26 +113,26 @@ impl Bus for Lpc {
                 0
             }
             Access::PortIn { port } => self.read_port(port),
-            _ => 0xFF,
+            _ => NOTHING,
         }
     }
 
     fn due(&self) -> Due {
-        if self.status == 0x06 {
+        if self.status == lpc::BUSY_MASK {
             Due::AtTick
         } else {
             Due::No
         }
     }
 
-    fn asked(&self) -> &[u8] {
+    fn waiting(&self) -> &[u8] {
         &self.window
     }
 
     fn reply(&mut self, packet: &Packet) {
         let bytes = packet.as_slice();
         self.window[..bytes.len()].copy_from_slice(bytes);
-        self.status = 0x01;
+        self.status = lpc::TO_HOST;
         self.outcome = bytes[2];
     }
 

@@ -17,7 +17,7 @@ use Rattle.ec_model.specs.Packet.{RequestView}
 use Rattle.ec_params.specs.declared.protection.FlashProtectAsk.{FlashProtectAsk}
 use Rattle.command_table.specs.declared.asks.Ask.{Ask}
 use Rattle.command_table.specs.declared.asks.Ask.TheVariants.{FlashProtect as AsksProtect}
-use Rattle.command_table.specs.Asks.{command_of, body_of, IsPassed}
+use Rattle.command_table.specs.Asks.{ask_command, ask_body, IsPassed}
 use Rattle.ec_model.specs.ProtectRow.{flash_protect_row, protect_operations, protect_view, protected}
 use Rattle.ec_model.specs.Answer.{Answered}
 use Rattle.ec_boot.specs.States.{RunView, core_at, told_core}
@@ -100,7 +100,7 @@ stopped-told mask flags PowerLost hurt other status body device changed old new 
 pub passed-protect : (request : RequestView) (found : Result Admitted ℕ) (ask : Ask) (inner : FlashProtectAsk) → ask ≡ AsksProtect inner → IsPassed request found ask →
     found ≡ Ok (record { command = FlashProtect; version = request.version; body = flash_protect_ask inner.mask inner.flags })
 passed-protect request found ask inner same passed =
-    passed.same ∙ ap (λ (a : Ask). let r : Result Admitted ℕ = Ok (record { command = command_of a; version = request.version; body = body_of request.version a }) in r) same
+    passed.same ∙ ap (λ (a : Ask). let r : Result Admitted ℕ = Ok (record { command = ask_command a; version = request.version; body = ask_body request.version a }) in r) same
 
 -- what such a request leaves
 pub found-told : (limit : ℕ) (request : RequestView) (mask flags : ℕ) (hurt : Hurt) (status : ℕ) (body : List ℕ) (old new : RunView) →

@@ -22,13 +22,13 @@ question_command AsksFlashInfo = FlashInfo
 question_command (AsksRegion ask) = RegionInfo
 
 -- the command that is asked
-abbrev pub command_of : Ask → Command
-command_of (Asks question) = question_command question
-command_of (AsksRead ask) = FlashRead
-command_of (AsksWrite ask) = FlashWrite
-command_of (AsksErase ask) = FlashErase
-command_of (AsksProtect ask) = FlashProtect
-command_of AsksResend = Resend
+abbrev pub ask_command : Ask → Command
+ask_command (Asks question) = question_command question
+ask_command (AsksRead ask) = FlashRead
+ask_command (AsksWrite ask) = FlashWrite
+ask_command (AsksErase ask) = FlashErase
+ask_command (AsksProtect ask) = FlashProtect
+ask_command AsksResend = Resend
 
 -- the body that names a command, in each version
 abbrev pub named : ℕ → ℕ → List ℕ
@@ -43,24 +43,24 @@ question_body version (AsksRegion ask) = region_info_ask ask.region
 question_body version other = []
 
 -- the body that spells what is asked
-abbrev pub body_of : ℕ → Ask → List ℕ
-body_of version (Asks question) = question_body version question
-body_of version (AsksRead ask) = flash_read_ask ask.offset ask.size
-body_of version (AsksWrite ask) = flash_write_ask ask.offset ask.bytes.now
-body_of version (AsksErase ask) = flash_erase_ask ask.offset ask.size
-body_of version (AsksProtect ask) = flash_protect_ask ask.mask ask.flags
-body_of version AsksResend = []
+abbrev pub ask_body : ℕ → Ask → List ℕ
+ask_body version (Asks question) = question_body version question
+ask_body version (AsksRead ask) = flash_read_ask ask.offset ask.size
+ask_body version (AsksWrite ask) = flash_write_ask ask.offset ask.bytes.now
+ask_body version (AsksErase ask) = flash_erase_ask ask.offset ask.size
+ask_body version (AsksProtect ask) = flash_protect_ask ask.mask ask.flags
+ask_body version AsksResend = []
 
 -- what a body says to the command of a line: nothing exactly where it is no spelling
 abbrev pub IsAskOf : Option CommandLine → ℕ → List ℕ → Option Ask → Type 0
 IsAskOf None version body result = result ≡ None
 IsAskOf (Some found) version body None = IsFalse (is_spelled found.command version body)
-IsAskOf (Some found) version body (Some ask) = IsTrue (is_spelled found.command version body) × (command_of ask ≡ found.command) × (body ≡ body_of version ask)
+IsAskOf (Some found) version body (Some ask) = IsTrue (is_spelled found.command version body) × (ask_command ask ≡ found.command) × (body ≡ ask_body version ask)
 
 -- a request that passed the checks
 pub record IsPassed (request : RequestView) (found : Result Admitted ℕ) (ask : Ask) : Type 0 where
-  pub same : found ≡ Ok (record { command = command_of ask; version = request.version; body = body_of request.version ask })
-  pub spelled : request.body ≡ body_of request.version ask
+  pub same : found ≡ Ok (record { command = ask_command ask; version = request.version; body = ask_body request.version ask })
+  pub spelled : request.body ≡ ask_body request.version ask
 
 -- a request that passed the checks, or the status of the first that failed
 abbrev pub IsAdmittedAs : RequestView → Result Admitted ℕ → Result Ask ℕ → Type 0

@@ -5,7 +5,7 @@ ghost use Rattle.command_table.specs.Asks.{named, IsAskOf};
 
 use ec_params::{
     CmdVersionsAsk0, CmdVersionsAsk1, FlashEraseAsk, FlashProtectAsk, FlashReadAsk, FlashWriteAsk,
-    HelloAsk, RegionInfoAsk, TestAsk,
+    HelloAsk, RegionInfoAsk, TestAsk, command,
 };
 
 /// The commands that only ask, and read no byte of the flash.
@@ -59,20 +59,24 @@ pub fn ask_of<'a>(command: u16, version: u8, body: &'a [u8]) -> Option<Ask<'a>>
     ensures { IsAskOf (line_of command) version body.now result }
 {
     match command {
-        0x0000 => alone(body, Ask::Question(Question::Proto)),
-        0x0001 => Some(Ask::Question(Question::Hello(HelloAsk::read(body)?))),
-        0x0005 => alone(body, Ask::Question(Question::Chip)),
-        0x0008 => Some(Ask::Question(Question::CmdVersions(named(version, body)?))),
-        0x0009 => alone(body, Ask::Question(Question::Comms)),
-        0x000A => Some(Ask::Question(Question::Test(TestAsk::read(body)?))),
-        0x000B => alone(body, Ask::Question(Question::ProtoInfo)),
-        0x0010 => alone(body, Ask::Question(Question::FlashInfo)),
-        0x0011 => Some(Ask::FlashRead(FlashReadAsk::read(body)?)),
-        0x0012 => Some(Ask::FlashWrite(FlashWriteAsk::read(body)?)),
-        0x0013 => Some(Ask::FlashErase(FlashEraseAsk::read(body)?)),
-        0x0015 => Some(Ask::FlashProtect(FlashProtectAsk::read(body)?)),
-        0x0016 => Some(Ask::Question(Question::RegionInfo(RegionInfoAsk::read(body)?))),
-        0x00DB => alone(body, Ask::Resend),
+        command::PROTO_VERSION => alone(body, Ask::Question(Question::Proto)),
+        command::HELLO => Some(Ask::Question(Question::Hello(HelloAsk::read(body)?))),
+        command::GET_CHIP_INFO => alone(body, Ask::Question(Question::Chip)),
+        command::GET_COMMAND_VERSIONS => Some(Ask::Question(Question::CmdVersions(named(
+            version, body,
+        )?))),
+        command::GET_COMMS_STATUS => alone(body, Ask::Question(Question::Comms)),
+        command::TEST_PROTOCOL => Some(Ask::Question(Question::Test(TestAsk::read(body)?))),
+        command::GET_PROTOCOL_INFO => alone(body, Ask::Question(Question::ProtoInfo)),
+        command::FLASH_INFO => alone(body, Ask::Question(Question::FlashInfo)),
+        command::FLASH_READ => Some(Ask::FlashRead(FlashReadAsk::read(body)?)),
+        command::FLASH_WRITE => Some(Ask::FlashWrite(FlashWriteAsk::read(body)?)),
+        command::FLASH_ERASE => Some(Ask::FlashErase(FlashEraseAsk::read(body)?)),
+        command::FLASH_PROTECT => Some(Ask::FlashProtect(FlashProtectAsk::read(body)?)),
+        command::FLASH_REGION_INFO => Some(Ask::Question(Question::RegionInfo(RegionInfoAsk::read(
+            body,
+        )?))),
+        command::RESEND_RESPONSE => alone(body, Ask::Resend),
         _ => None,
     }
 }

@@ -10,14 +10,15 @@ ghost use Rattle.command_table.specs.Leaves.{Leaves, KeepsDevice};
 use crate::Reply;
 use crate::refusals::refused_erase;
 use ec_boot::Running;
-
-/// The status of a request whose work goes on.
-const IN_PROGRESS: u16 = 8;
+use ec_params::ERASE_UNIT;
+use ec_types::status;
 
 /// FLASH_ERASE: the erase is pending, and the ticks do it.
 pub fn flash_erase<R: Running>(state: &mut R, at: u32, count: u32, reply: &mut Reply)
     requires { (R.run state.old).live.erase ≡ None }
-    ensures leaves { Changes (λ before after. Leaves reply.new.hurt (flash_erase_row before (flash_erase_ask at count)) false [] (R.run state.old).device (R.run state.new).device before after reply.new.status reply.new.body)
+    ensures leaves { Changes (λ before after.
+        Leaves reply.new.hurt (flash_erase_row before (flash_erase_ask at count)) false []
+        (R.run state.old).device (R.run state.new).device before after reply.new.status reply.new.body)
         (told_core (R.run state.old)) (told_core (R.run state.new)) }
     ensures device { KeepsDevice reply.new.hurt (R.run state.old) (R.run state.new) }
     ensures short { length reply.new.body ≡ 0 }
@@ -27,15 +28,17 @@ pub fn flash_erase<R: Running>(state: &mut R, at: u32, count: u32, reply: &mut R
     match refused_erase(size, &live, at, count) {
         Some(status) => reply.refuse(status),
         None => {
-            state.start_erase(at / 4096, count / 4096);
-            reply.refuse(IN_PROGRESS);
+            state.start_erase(at / ERASE_UNIT, count / ERASE_UNIT);
+            reply.refuse(status::IN_PROGRESS);
         }
     }
 }
 
 /// RESEND_RESPONSE: the status of an erase that ended is given once.
 pub fn resend<R: Running>(state: &mut R, reply: &mut Reply)
-    ensures leaves { Changes (λ before after. Leaves reply.new.hurt (resend_row before) false [] (R.run state.old).device (R.run state.new).device before after reply.new.status reply.new.body)
+    ensures leaves { Changes (λ before after.
+        Leaves reply.new.hurt (resend_row before) false []
+        (R.run state.old).device (R.run state.new).device before after reply.new.status reply.new.body)
         (told_core (R.run state.old)) (told_core (R.run state.new)) }
     ensures device { KeepsDevice reply.new.hurt (R.run state.old) (R.run state.new) }
     ensures short { length reply.new.body ≡ 0 }

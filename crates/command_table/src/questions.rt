@@ -4,7 +4,16 @@ ghost use Rattle.flash_dev.specs.declared.hurt.Hurt.TheVariants.{Whole};
 ghost use Rattle.ec_model.specs.Table.{Core};
 ghost use Rattle.ec_model.specs.Bodies.{hello_ask, test_ask, region_info_ask};
 ghost use Rattle.ec_model.specs.Answer.{Answered};
-ghost use Rattle.ec_model.specs.InfoRows.{zero_padded, hello_row, chip_row, mask_told, comms_row, test_row, flash_info_row, region_info_row};
+ghost use Rattle.ec_model.specs.InfoRows.{
+  zero_padded,
+  hello_row,
+  chip_row,
+  mask_told,
+  comms_row,
+  test_row,
+  flash_info_row,
+  region_info_row,
+};
 ghost use Rattle.ec_model.specs.Commands.{known};
 ghost use Rattle.ec_model.specs.Handle.{row};
 ghost use Rattle.command_table.specs.Asks.{question_command, question_body};
@@ -13,10 +22,23 @@ use crate::Reply;
 use crate::asks::Question;
 use ec_packet::Packet;
 use ec_params::{
-    ChipSay, CmdVersionsSay, CommsSay, FlashInfoSay0, FlashInfoSay1, HelloSay, ProtoInfoSay,
-    ProtoSay, RegionInfoSay, TestAsk, TestSay, known,
+    ChipSay, CmdVersionsSay, CommsSay, ERASE_UNIT, FlashInfoSay0, FlashInfoSay1, HelloSay,
+    IDEAL_WRITE, PROTECT_UNIT, ProtoInfoSay, ProtoSay, RegionInfoSay, TestAsk, TestSay, WRITE_UNIT,
+    known,
 };
+use ec_types::status;
 use flash_dev::{Geometry, Region};
+
+// The results that TEST_PROTOCOL can be asked for: success, and each status up to the highest.
+const RESULT_SUCCESS: u32 = status::SUCCESS as u32;
+
+const HIGHEST_RESULT: u32 = status::DUPLICATE_UNAVAILABLE as u32;
+
+// How many bytes TEST_PROTOCOL gives back at most.
+const BUFFER_LENGTH: u32 = 32;
+
+// How many bytes a text of GET_CHIP_INFO has.
+const TEXT_LENGTH: usize = 32;
 
 // HELLO.
 fn hello(x: u32, reply: &mut Reply)
@@ -25,18 +47,18 @@ fn hello(x: u32, reply: &mut Reply)
     ensures short { length reply.new.body ≤ 96 }
 {
     let say = HelloSay {
-        x: x.wrapping_add(0x01020304),
+        x: x.wrapping_add(HelloSay::ADDED),
     };
     reply.succeed();
     say.write(&mut reply.body);
 }
 
 // A text with zeros behind it.
-fn padded(text: &[u8]) -> [u8; 32]
+fn padded(text: &[u8]) -> [u8; TEXT_LENGTH]
     requires { length text.now ≤ 32 }
     ensures { result ≡ zero_padded 32 text.now }
 {
-    let mut bytes = [0; 32];
+    let mut bytes = [0; TEXT_LENGTH];
     bytes[..text.len()].copy_from_slice(text);
     bytes
 }
@@ -67,18 +89,19 @@ fn cmd_versions(command: u16, reply: &mut Reply)
             reply.succeed();
             CmdVersionsSay { mask }.write(&mut reply.body);
         }
-        None => reply.refuse(3),
+        None => reply.refuse(status::INVALID_PARAMETER),
     }
 }
 
 // GET_COMMS_STATUS.
 fn comms(erasing: bool, reply: &mut Reply)
-    ensures row { (core : Core) → is_some core.live.erase ≡ erasing → comms_row core ≡ Answered core reply.new.status reply.new.body }
+    ensures row { (core : Core) → is_some core.live.erase ≡ erasing →
+        comms_row core ≡ Answered core reply.new.status reply.new.body }
     ensures hurt { reply.new.hurt ≡ Whole }
     ensures short { length reply.new.body ≤ 96 }
 {
     let say = CommsSay {
-        flags: u32::from(erasing),
+        flags: if erasing { CommsSay::PROCESSING } else { 0 },
     };
     reply.succeed();
     say.write(&mut reply.body);
@@ -86,45 +109,47 @@ fn comms(erasing: bool, reply: &mut Reply)
 
 // TEST_PROTOCOL.
 fn test(ask: TestAsk, reply: &mut Reply)
-    ensures row { (core : Core) → test_row core (test_ask ask.ec_result ask.ret_len ask.buf) ≡ Answered core reply.new.status reply.new.body }
+    ensures row { (core : Core) →
+        test_row core (test_ask ask.ec_result ask.ret_len ask.buf) ≡ Answered core reply.new.status reply.new.body }
     ensures hurt { reply.new.hurt ≡ Whole }
     ensures short { length reply.new.body ≤ 96 }
 {
     match ask.ec_result {
-        0 => {
-            let count = ask.ret_len.min(32) as usize;
+        RESULT_SUCCESS => {
+            let count = ask.ret_len.min(BUFFER_LENGTH) as usize;
             let mut bytes = Packet::new();
             bytes.extend(&ask.buf[..count]);
             reply.succeed();
             TestSay { bytes }.write(&mut reply.body);
         }
-        wanted if wanted <= 20 => reply.refuse(wanted as u16),
-        _ => reply.refuse(3),
+        wanted if wanted <= HIGHEST_RESULT => reply.refuse(wanted as u16),
+        _ => reply.refuse(status::INVALID_PARAMETER),
     }
 }
 
 // FLASH_INFO.
 fn flash_info(size: u32, version: u8, reply: &mut Reply)
-    ensures row { (core : Core) → length core.flash ≡ size → flash_info_row core version ≡ Answered core reply.new.status reply.new.body }
+    ensures row { (core : Core) → length core.flash ≡ size →
+        flash_info_row core version ≡ Answered core reply.new.status reply.new.body }
     ensures hurt { reply.new.hurt ≡ Whole }
     ensures short { length reply.new.body ≤ 96 }
 {
     if version == 0 {
         let say = FlashInfoSay0 {
             size,
-            write: 4,
-            erase: 4096,
-            protect: 4096,
+            write: WRITE_UNIT,
+            erase: ERASE_UNIT,
+            protect: PROTECT_UNIT,
         };
         reply.succeed();
         say.write(&mut reply.body);
     } else {
         let say = FlashInfoSay1 {
             size,
-            write: 4,
-            erase: 4096,
-            protect: 4096,
-            ideal: 64,
+            write: WRITE_UNIT,
+            erase: ERASE_UNIT,
+            protect: PROTECT_UNIT,
+            ideal: IDEAL_WRITE,
             flags: 0,
         };
         reply.succeed();
@@ -134,7 +159,8 @@ fn flash_info(size: u32, version: u8, reply: &mut Reply)
 
 // FLASH_REGION_INFO.
 fn region_info(region: u32, geometry: Geometry, reply: &mut Reply)
-    ensures row { (core : Core) → length core.flash ≡ geometry → region_info_row core (region_info_ask region) ≡ Answered core reply.new.status reply.new.body }
+    ensures row { (core : Core) → length core.flash ≡ geometry →
+        region_info_row core (region_info_ask region) ≡ Answered core reply.new.status reply.new.body }
     ensures hurt { reply.new.hurt ≡ Whole }
     ensures short { length reply.new.body ≤ 96 }
 {
@@ -144,7 +170,7 @@ fn region_info(region: u32, geometry: Geometry, reply: &mut Reply)
             reply.succeed();
             RegionInfoSay { offset, size }.write(&mut reply.body);
         }
-        None => reply.refuse(3),
+        None => reply.refuse(status::INVALID_PARAMETER),
     }
 }
 
@@ -158,14 +184,18 @@ pub fn tell(
     reply: &mut Reply,
 )
     ensures row { (core : Core) → length core.flash ≡ geometry → is_some core.live.erase ≡ erasing →
-        row core limit (question_command question) version (question_body version question) ≡ Answered core reply.new.status reply.new.body }
+        row core limit (question_command question) version (question_body version question) ≡
+        Answered core reply.new.status reply.new.body }
     ensures hurt { reply.new.hurt ≡ Whole }
     ensures short { length reply.new.body ≤ 96 }
 {
     match question {
         Question::Proto => {
             reply.succeed();
-            ProtoSay { version: 2 }.write(&mut reply.body);
+            ProtoSay {
+                version: ProtoSay::VERSION,
+            }
+            .write(&mut reply.body);
         }
         Question::Hello(ask) => hello(ask.x, reply),
         Question::Chip => chip(reply),
@@ -174,10 +204,10 @@ pub fn tell(
         Question::Test(ask) => test(ask, reply),
         Question::ProtoInfo => {
             let say = ProtoInfoSay {
-                versions: 8,
+                versions: ProtoInfoSay::VERSION_3,
                 max_request: limit,
                 max_response: limit,
-                flags: 1,
+                flags: ProtoInfoSay::IN_PROGRESS_SUPPORTED,
             };
             reply.succeed();
             say.write(&mut reply.body);

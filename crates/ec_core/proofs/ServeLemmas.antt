@@ -19,7 +19,7 @@ use Rattle.ec_model.specs.WholeStep.{after_outcome}
 use Rattle.ec_model.specs.Step.{after_unread, error_replied, failed_core}
 use Rattle.ec_packet.specs.declared.request.Request.{Request}
 use Rattle.ec_packet.specs.Read.{request_view, IsReadAs}
-use Rattle.ec_wire.specs.Dues.{asked_of}
+use Rattle.ec_wire.specs.Dues.{waiting_request}
 use Rattle.ec_boot.specs.States.{RunView, OffView, core_at, told_core, Follows}
 use Rattle.command_table.specs.declared.table.After.{After}
 use Rattle.flash_dev.specs.View.{DeviceView}
@@ -184,11 +184,11 @@ short-of : (kind : BusKind) → packet_limit kind - 8 ≤ 1024
 short-of kind = let is = limits kind in omega (arith, is.most)
 
 -- a request that was answered
-pub served-up : {F : Type 0} (kind : BusKind) (event : Event) (answer : ℕ) (old_bus bus new_bus : BusState) (run next : RunView) (hurt : Hurt) (status : ℕ) (body bytes : List ℕ) → kind_of bus ≡ kind → asked_of bus ≡ Some bytes →
+pub served-up : {F : Type 0} (kind : BusKind) (event : Event) (answer : ℕ) (old_bus bus new_bus : BusState) (run next : RunView) (hurt : Hurt) (status : ℕ) (body bytes : List ℕ) → kind_of bus ≡ kind → waiting_request bus ≡ Some bytes →
     new_bus ≡ replied (response_packet status body) bus → StaysOn (packet_limit kind) (λ core. asked core bytes) hurt status body run next →
     IsTakenUp event old_bus (Some ServeTask) bus answer run → IsStepped {F = F} kind event hurt (answer_by hurt answer (lost_answer event)) old_bus new_bus (Some (Up run)) (Some (Up next))
 served-up {F} kind event answer old_bus bus new_bus run next hurt status body bytes kind_is asked_is bus_is stays_on taken =
-    let work_is : work_on (awake_of run old_bus) event ≡ Serve bytes = taken.task_is.serves ∙ ap (λ (r : List ℕ). Serve r) (same-some taken.task_is.request bytes (asked_of bus) taken.task_is.asked asked_is) in
+    let work_is : work_on (awake_of run old_bus) event ≡ Serve bytes = taken.task_is.serves ∙ ap (λ (r : List ℕ). Serve r) (same-some taken.task_is.request bytes (waiting_request bus) taken.task_is.asked asked_is) in
     let leaves = subst (λ (k : BusKind). Changes (λ before after. FoundLeaves (asked before bytes) hurt (packet_limit k) run.device next.device before after status body) (told_core run) (told_core next)) (sym kind_is) stays_on.leaves in
     subst (λ (b : BusState). IsStepped {F = F} kind event hurt (answer_by hurt answer (lost_answer event)) old_bus b (Some (Up run)) (Some (Up next))) (sym bus_is)
     (step-up {F = F} kind event hurt answer old_bus bus (replied (response_packet status body) bus) (Some ServeTask) run (Up next) taken
@@ -197,11 +197,11 @@ served-up {F} kind event answer old_bus bus new_bus run next hurt status body by
     (on-alive hurt stays_on.alive) stays_on.pin (replied-none (response_packet status body) bus) (spent-in hurt 1024 run.device next.device (omega arith) stays_on.spent))
 
 -- a request in which power was lost
-pub served-down : {F : Type 0} (kind : BusKind) (event : Event) (answer : ℕ) (old_bus bus : BusState) (run : RunView) (off : OffView) (pin : Bool) (hurt : Hurt) (bytes : List ℕ) → kind_of bus ≡ kind → asked_of bus ≡ Some bytes → pin ≡ run.pin →
+pub served-down : {F : Type 0} (kind : BusKind) (event : Event) (answer : ℕ) (old_bus bus : BusState) (run : RunView) (off : OffView) (pin : Bool) (hurt : Hurt) (bytes : List ℕ) → kind_of bus ≡ kind → waiting_request bus ≡ Some bytes → pin ≡ run.pin →
     GoesOff (packet_limit kind) (λ core. asked core bytes) hurt run off →
     IsTakenUp event old_bus (Some ServeTask) bus answer run → IsStepped {F = F} kind event Cut (lost_answer event) old_bus bus (Some (Up run)) (Some (Down off pin))
 served-down {F} kind event answer old_bus bus run off pin hurt bytes kind_is asked_is pin_is goes_off taken =
-    let work_is : work_on (awake_of run old_bus) event ≡ Serve bytes = taken.task_is.serves ∙ ap (λ (r : List ℕ). Serve r) (same-some taken.task_is.request bytes (asked_of bus) taken.task_is.asked asked_is) in
+    let work_is : work_on (awake_of run old_bus) event ≡ Serve bytes = taken.task_is.serves ∙ ap (λ (r : List ℕ). Serve r) (same-some taken.task_is.request bytes (waiting_request bus) taken.task_is.asked asked_is) in
     subst (λ (p : Bool). IsStepped {F = F} kind event Cut (lost_answer event) old_bus bus (Some (Up run)) (Some (Down off p))) (sym pin_is)
     (step-up {F = F} kind event Cut answer old_bus bus bus (Some ServeTask) run (Down off run.pin) taken
     (event-told Cut event old_bus bus answer (lost_answer event) off.device run (Serve bytes) (down_table kind run.pin off) taken.state taken.answer_is work_is

@@ -13,7 +13,7 @@ use Rattle.ec_model.specs.Table.{Core, Table, table_of, off_table}
 use Rattle.ec_model.specs.Work.{Work, Rest, Serve, Stop, SetPin, work_on, work_off, bus_after, lost_answer, work_operations, After}
 use Rattle.ec_model.specs.WholeStep.{worked_off}
 use Rattle.ec_model.specs.Step.{WorkLeaves, OffLeaves}
-use Rattle.ec_wire.specs.Dues.{asked_of}
+use Rattle.ec_wire.specs.Dues.{waiting_request}
 use Rattle.ec_boot.specs.States.{RunView, OffView, core_at, told_core, Follows}
 use Rattle.flash_dev.specs.Costs.{Costs, Account}
 use Rattle.flash_dev.proofs.Accounting.{account-same}
@@ -277,7 +277,7 @@ is-some o request same = ap (λ (p : Option (List ℕ)). is_some p) same
 
 pub can-carry : {F : Type 0} (event : Event) (old_bus bus : BusState) (task : Task) (answer : ℕ) (held : Option (Held F)) → IsTaken event old_bus (Some task) bus answer held → CanCarry task bus (is_kept_up held)
 can-carry event old_bus bus task answer None taken = absurd taken
-can-carry event old_bus bus ServeTask answer (Some (Up run)) taken = is-some (asked_of bus) taken.task_is.request taken.task_is.asked
+can-carry event old_bus bus ServeTask answer (Some (Up run)) taken = is-some (waiting_request bus) taken.task_is.request taken.task_is.asked
 can-carry event old_bus bus TickTask answer (Some (Up run)) taken = tt
 can-carry event old_bus bus (BootTask cause) answer (Some (Up run)) taken = tt
 can-carry event old_bus bus StopTask answer (Some (Up run)) taken = tt

@@ -8,7 +8,7 @@ use Rattle.ec_model.specs.Bus.{BusState, due_now}
 use Rattle.ec_model.specs.HostCalls.{on_after_event}
 use Rattle.ec_model.specs.Guarded.{pin_after}
 use Rattle.ec_model.specs.Work.{Work, Rest, Serve, Boot, Stop, SetPin, idle_work, work_on, work_off, bus_after, lost_answer}
-use Rattle.ec_wire.specs.Dues.{asked_of}
+use Rattle.ec_wire.specs.Dues.{waiting_request}
 use Rattle.ec_boot.specs.States.{RunView}
 use Rattle.ec_core.specs.Held.{awake_of, kept_table, kept_device, kept_pin, is_kept_up, IsKept, IsSpent, IsSilent, EventTold, answer_by, on_behind}
 use Rattle.ec_core.specs.declared.held.Held.{Held}
@@ -20,7 +20,7 @@ use Rattle.ec_core.specs.declared.task.Task.TheVariants.{Serve as ServeTask, Tic
 pub record IsServing (bus : BusState) (work : Work) : Type 0 where
   pub request : List ℕ
   pub serves : work ≡ Serve request
-  pub asked : asked_of bus ≡ Some request
+  pub asked : waiting_request bus ≡ Some request
 
 -- A task, if there is one, is this work; the request of one that serves is on the bus. `idle` is the work of a tick that
 -- serves none, where the controller is on.
@@ -39,7 +39,7 @@ IsCalmBut other bus = IsNone (due_now bus)
 
 -- a request to serve is there, and only a controller that is on serves, ticks or stops
 abbrev pub CanCarry : Task → BusState → Bool → Type 0
-CanCarry ServeTask bus true = IsSome (asked_of bus)
+CanCarry ServeTask bus true = IsSome (waiting_request bus)
 CanCarry ServeTask bus false = ⊥
 CanCarry TickTask bus false = ⊥
 CanCarry StopTask bus false = ⊥

@@ -4,7 +4,7 @@ use Rattle.std.specs.Prelude.{sum}
 use Rattle.std.proofs.lemmas.List.{length-take}
 use Rattle.ec_types.specs.LittleEndian.{AreBytes}
 use Rattle.ec_model.specs.Packet.{RequestView, request_packet, framing, checksum_of}
-use Rattle.ec_packet.specs.Read.{asked}
+use Rattle.ec_packet.specs.Read.{request_of}
 use Rattle.ec_packet.proofs.Sums.{only_checksum, passes, equal_of, both_of}
 
 abbrev refusal : ℕ → Result RequestView ℕ
@@ -60,7 +60,7 @@ begins_of x0 x1 x2 x3 x4 x5 x6 x7 tail view fits read =
     let l0 : length (take n tail) % 256 ≡ x6 = omega arith in
     let l1 : length (take n tail) / 256 % 256 ≡ x7 = omega arith in
     let check : checksum_of (x0 ∷ x2 ∷ x3 ∷ x4 ∷ x5 ∷ x6 ∷ x7 ∷ take n tail) ≡ x1 = only_checksum x0 x1 (x2 ∷ x3 ∷ x4 ∷ x5 ∷ x6 ∷ x7 ∷ take n tail) b1 zero in
-    subst (Begins bytes) (same-view (asked (x2 + 256 * (x3 + 256 * 0)) x4 (take n tail)) view four.1)
+    subst (Begins bytes) (same-view (request_of (x2 + 256 * (x3 + 256 * 0)) x4 (take n tail)) view four.1)
     (drop n tail, sealed x0 x1 x2 x3 x4 x5 x6 x7 _ _ _ _ (take n tail) (drop n tail) tail e0 e5 c0 c1 l0 l1 (sym (take-append-drop n tail)) check) where
       long_of : (m n : ℕ) → nat_lt (suc (suc (suc (suc (suc (suc (suc (suc m)))))))) (8 + n) ≡ false → n ≤ m
       long_of m n same = grind (arith)

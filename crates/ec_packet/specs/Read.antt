@@ -9,12 +9,12 @@ use Rattle.ec_packet.specs.declared.response.BadReply.{BadReply}
 use Rattle.ec_packet.specs.declared.response.BadReply.TheVariants.{Short, Version, Reserved, Length, Sum}
 
 -- a request of these fields
-abbrev pub asked : (command version : ℕ) (body : List ℕ) → RequestView
-asked command version body = record { command = command; version = version; body = body }
+abbrev pub request_of : (command version : ℕ) (body : List ℕ) → RequestView
+request_of command version body = record { command = command; version = version; body = body }
 
 -- a request as it was read
 abbrev pub request_view : Request → RequestView
-request_view request = asked request.command request.version request.body.now
+request_view request = request_of request.command request.version request.body.now
 
 -- the answer is the request that was read, or the status of its refusal
 abbrev pub IsReadAs : Result RequestView ℕ → Result Request Status → Type 0

@@ -1,8 +1,8 @@
 // What both encoders and both decoders share: the sum of a packet's bytes, and the checksum that makes it 0.
-ghost use Rattle.std.specs.Prelude.{◌≡◌, ◌+◌, ◌≤◌, ◌<◌, ◌++◌, ◌↔◌, length, sum, IsErr, IfOk, slice_index, slice_set};
+ghost use Rattle.std.specs.Prelude.{◌≡◌, ◌+◌, ◌≤◌, ◌<◌, ◌++◌, ◌↔◌, length, sum, IsTrue, slice_index, slice_set};
 ghost use Rattle.ec_model.specs.Packet.{sums_to_zero, checksum_of};
 
-use crate::Packet;
+use crate::{HEADER_LENGTH, Packet};
 
 /// The packet would be longer than the limit.
 #[derive(Clone, Copy, Debug, PartialEq, Eq)]
@@ -24,20 +24,16 @@ pub fn sums(bytes: &[u8]) -> bool
     byte_sum(bytes) % 256 == 0
 }
 
-// The length of a body that fits the limit behind its header.
-pub fn fitting_length(body: &[u8], limit: u16) -> Result<u16, TooLong>
-    ensures refused { IsErr result ↔ (limit < 8 + length body.now) }
-    ensures length { IfOk result (λ fitting. fitting ≡ length body.now) }
+// Whether a body is too long for a packet of at most so many bytes.
+pub fn is_too_long(body: &[u8], limit: u16) -> bool
+    ensures { IsTrue result ↔ (limit < 8 + length body.now) }
 {
-    if body.len().saturating_add(8) > usize::from(limit) {
-        return Err(TooLong);
-    }
-    Ok(body.len() as u16)
+    body.len().saturating_add(HEADER_LENGTH) > usize::from(limit)
 }
 
 // Writes a header, which has 0 in place of its checksum, with its checksum, and the body.
 #[tactic(auto, using(crate::proofs::Sums::sum_append))]
-pub fn seal(mut header: [u8; 8], body: &[u8], out: &mut Packet)
+pub fn seal(mut header: [u8; HEADER_LENGTH], body: &[u8], out: &mut Packet)
     requires unsealed { slice_index header 1 ≡ 0 }
     requires fits { length body.now ≤ 536 }
     ensures { out.new ≡ slice_set header 1 (checksum_of (header ++ body.now)) ++ body.now }

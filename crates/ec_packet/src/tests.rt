@@ -1,6 +1,6 @@
 // The packets of one HELLO, and what is refused.
 use super::*;
-use ec_types::Status;
+use ec_types::{Status, status};
 use std::test::Fail;
 
 const HELLO: [u8; 12] = [3, 0x18, 1, 0, 0, 0, 4, 0, 0xD0, 0xC0, 0xB0, 0xA0];
@@ -27,20 +27,26 @@ fn requests_are_tested_in_order(rt: HostRuntime) -> Result<(), Fail> {
     assert_eq!(rt; request.command, 1);
     assert_eq!(rt; request.version, 0);
     assert_eq!(rt; request.body, &HELLO[8..]);
-    for (bytes, status) in [
-        ([4, 0, 0, 0, 0, 0, 0].as_slice(), 13),
-        ([4, 0, 0, 0, 0, 0, 4, 0].as_slice(), 12),
-        ([3, 0, 0, 0, 0, 1, 4, 0].as_slice(), 12),
-        ([3, 0, 0, 0, 0, 0, 4, 0].as_slice(), 13),
-        ([3, 0, 1, 0, 0, 0, 0xF9, 0].as_slice(), 13),
+    for (bytes, refusal) in [
+        ([4, 0, 0, 0, 0, 0, 0].as_slice(), status::REQUEST_TRUNCATED),
+        ([4, 0, 0, 0, 0, 0, 4, 0].as_slice(), status::INVALID_HEADER),
+        ([3, 0, 0, 0, 0, 1, 4, 0].as_slice(), status::INVALID_HEADER),
+        (
+            [3, 0, 0, 0, 0, 0, 4, 0].as_slice(),
+            status::REQUEST_TRUNCATED,
+        ),
+        (
+            [3, 0, 1, 0, 0, 0, 0xF9, 0].as_slice(),
+            status::REQUEST_TRUNCATED,
+        ),
         (
             [3, 0x19, 1, 0, 0, 0, 4, 0, 0xD0, 0xC0, 0xB0, 0xA0].as_slice(),
-            7,
+            status::INVALID_CHECKSUM,
         ),
     ] {
         match decode_request(bytes) {
-            Ok(_) => assert!(rt; false, "refused with {status}"),
-            Err(found) => assert_eq!(rt; found, Status(status)),
+            Ok(_) => assert!(rt; false, "refused with {refusal}"),
+            Err(found) => assert_eq!(rt; found, Status(refusal)),
         }
     }
     Ok(())
@@ -49,7 +55,7 @@ fn requests_are_tested_in_order(rt: HostRuntime) -> Result<(), Fail> {
 #[test]
 fn responses_are_tested_in_order(rt: HostRuntime) -> Result<(), Fail> {
     let response = decode_response(&REPLY).ok().ok_or("REPLY is a response")?;
-    assert_eq!(rt; response.status, 0);
+    assert_eq!(rt; response.status, status::SUCCESS);
     assert_eq!(rt; response.body, &REPLY[8..]);
     for (bytes, why) in [
         ([4, 0, 0, 0, 4, 0, 1].as_slice(), BadReply::Short),

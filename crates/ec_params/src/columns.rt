@@ -1,5 +1,21 @@
 // The columns of a body, from the first to the last: numbers with their lowest byte first, and bytes of a fixed length.
-ghost use Rattle.std.specs.Prelude.{◌≡◌, ◌≤◌, ◌+◌, ◌++◌, ◌∷◌, ◌↔◌, [], List, ℕ, length, take, drop, slice_index, IsSome, IfSome};
+ghost use Rattle.std.specs.Prelude.{
+  ◌≡◌,
+  ◌≤◌,
+  ◌+◌,
+  ◌++◌,
+  ◌∷◌,
+  ◌↔◌,
+  [],
+  List,
+  ℕ,
+  length,
+  take,
+  drop,
+  slice_index,
+  IsSome,
+  IfSome,
+};
 ghost use Rattle.ec_types.specs.LittleEndian.{u16_bytes, u32_bytes, u16_at, u32_at};
 
 use byteorder::{ByteOrder, LittleEndian};

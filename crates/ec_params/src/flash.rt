@@ -1,10 +1,47 @@
 // What the flash is, and reading, writing and erasing it.
-ghost use Rattle.std.specs.Prelude.{◌≡◌, ◌≤◌, ◌<◌, ◌+◌, ◌^◌, ◌++◌, ◌↔◌, ℕ, List, length, Some, IsSome, IfSome, IsSomeAnd, IsTrue};
-ghost use Rattle.ec_model.specs.Bodies.{flash_info_say0, flash_info_say1, flash_read_ask, flash_erase_ask, flash_read_say, flash_write_ask};
+ghost use Rattle.std.specs.Prelude.{
+  ◌≡◌,
+  ◌≤◌,
+  ◌<◌,
+  ◌+◌,
+  ◌^◌,
+  ◌++◌,
+  ◌↔◌,
+  ℕ,
+  List,
+  length,
+  Some,
+  IsSome,
+  IfSome,
+  IsSomeAnd,
+  IsTrue,
+};
+ghost use Rattle.ec_model.specs.Bodies.{
+  flash_info_say0,
+  flash_info_say1,
+  flash_read_ask,
+  flash_erase_ask,
+  flash_read_say,
+  flash_write_ask,
+};
 ghost use Rattle.ec_model.specs.Commands.{is_write_spelled};
 
 use crate::columns::{Columns, put_u32};
-use ec_packet::Packet;
+use ec_packet::{LARGEST_BODY, Packet};
+
+/// The unit of a write, in bytes.
+pub const WRITE_UNIT: u32 = 4;
+/// The unit of an erase, in bytes.
+pub const ERASE_UNIT: u32 = 4096;
+/// The unit of protection, in bytes.
+pub const PROTECT_UNIT: u32 = 4096;
+/// The most bytes of a write that is done in one piece.
+pub const IDEAL_WRITE: u32 = 64;
+/// The most bytes that a FLASH_WRITE of version 0 may have. EC_FLASH_WRITE_VER0_SIZE
+pub const LONGEST_WRITE_0: u32 = 64;
+
+// How many bytes of a FLASH_WRITE stand before those to write.
+const WRITE_HEAD: usize = 8;
 
 /// FLASH_INFO's reply of version 0, in bytes.
 #[derive(Clone, Copy, Debug, PartialEq, Eq)]
@@ -69,6 +106,34 @@ pub struct FlashInfoSay1 {
 }
 
 impl FlashInfoSay1 {
+    /// The fields that 24 bytes spell.
+    pub fn from_bytes(bytes: &[u8]) -> Self
+        requires { length bytes.now ≡ 24 }
+        ensures spelled { bytes.now ≡
+            flash_info_say1 result.size result.write result.erase result.protect result.ideal result.flags }
+        ensures back { (size write erase protect ideal flags : ℕ) →
+            size < 2 ^ 32 → write < 2 ^ 32 → erase < 2 ^ 32 → protect < 2 ^ 32 → ideal < 2 ^ 32 → flags < 2 ^ 32 →
+            bytes.now ≡ flash_info_say1 size write erase protect ideal flags →
+            result ≡ record {
+              size = size;
+              write = write;
+              erase = erase;
+              protect = protect;
+              ideal = ideal;
+              flags = flags;
+            } }
+    {
+        let mut columns = Columns::new(bytes);
+        FlashInfoSay1 {
+            size: columns.u32(),
+            write: columns.u32(),
+            erase: columns.u32(),
+            protect: columns.u32(),
+            ideal: columns.u32(),
+            flags: columns.u32(),
+        }
+    }
+
     /// The fields that the bytes spell; None exactly where they are not 24 bytes.
     pub fn read(bytes: &[u8]) -> Option<Self>
         ensures some { IsSome result ↔ (length bytes.now ≡ 24) }
@@ -86,15 +151,11 @@ impl FlashInfoSay1 {
               flags = flags;
             }) }
     {
-        let mut columns = Columns::of(bytes, 24)?;
-        Some(FlashInfoSay1 {
-            size: columns.u32(),
-            write: columns.u32(),
-            erase: columns.u32(),
-            protect: columns.u32(),
-            ideal: columns.u32(),
-            flags: columns.u32(),
-        })
+        if bytes.len() == 24 {
+            Some(FlashInfoSay1::from_bytes(bytes))
+        } else {
+            None
+        }
     }
 
     /// Appends the 24 bytes that spell the fields.
@@ -193,7 +254,7 @@ impl FlashReadSay {
         ensures some { IsSome result ↔ (length bytes.now ≤ 536) }
         ensures spelled { IfSome result (λ say. bytes.now ≡ flash_read_say say.bytes) }
     {
-        if bytes.len() > 536 {
+        if bytes.len() > LARGEST_BODY {
             return None;
         }
         Some(FlashReadSay {
@@ -241,8 +302,8 @@ pub struct FlashWriteAsk<'a> {
 }
 
 impl<'a> FlashWriteAsk<'a> {
-    /// The fields that the bytes spell; None exactly where there are more than 536, the most that a packet has behind its
-    /// header, or not as many bytes follow as the second number says.
+    /// The fields that the bytes spell; None exactly where there are more than 536, the most that a packet has behind
+    /// its header, or not as many bytes follow as the second number says.
     pub fn read(bytes: &'a [u8]) -> Option<FlashWriteAsk<'a>>
         ensures some { IsSome result ↔ IsTrue (is_write_spelled bytes.now) }
         ensures spelled { IfSome result (λ ask. bytes.now ≡ flash_write_ask ask.offset ask.bytes.now) }
@@ -251,13 +312,13 @@ impl<'a> FlashWriteAsk<'a> {
             bytes.now ≡ flash_write_ask offset written →
             IsSomeAnd result (λ ask. (ask.offset ≡ offset) × (ask.bytes.now ≡ written)) }
     {
-        if bytes.len() < 8 || bytes.len() > 536 {
+        if bytes.len() < WRITE_HEAD || bytes.len() > LARGEST_BODY {
             return None;
         }
         let mut columns = Columns::new(bytes);
         let offset = columns.u32();
         let size = columns.u32();
-        if bytes.len() != 8 + size as usize {
+        if bytes.len() != WRITE_HEAD + size as usize {
             return None;
         }
         Some(FlashWriteAsk {

@@ -13,6 +13,9 @@ pub struct ProtoSay {
 }
 
 impl ProtoSay {
+    /// The version that is told for versions 2 and 3. EC_PROTO_VERSION
+    pub const VERSION: u32 = 2;
+
     /// The fields that the bytes spell; None exactly where they are not 4 bytes.
     pub fn read(bytes: &[u8]) -> Option<Self>
         ensures some { IsSome result ↔ (length bytes.now ≡ 4) }
@@ -66,11 +69,14 @@ impl HelloAsk {
 /// HELLO's reply.
 #[derive(Clone, Copy, Debug, PartialEq, Eq)]
 pub struct HelloSay {
-    /// The request's number and 0x01020304, wrapping.
+    /// The sum of the request's number and `ADDED`, wrapping.
     pub x: u32,
 }
 
 impl HelloSay {
+    /// What the reply adds to the request's number.
+    pub const ADDED: u32 = 0x0102_0304;
+
     /// The fields that the bytes spell; None exactly where they are not 4 bytes.
     pub fn read(bytes: &[u8]) -> Option<Self>
         ensures some { IsSome result ↔ (length bytes.now ≡ 4) }

@@ -1,5 +1,20 @@
 // Who the controller is, and which image runs.
-ghost use Rattle.std.specs.Prelude.{◌≡◌, ◌≤◌, ◌<◌, ◌+◌, ◌^◌, ◌++◌, ◌↔◌, ℕ, List, length, Some, IsSome, IfSome, IsSomeAnd};
+ghost use Rattle.std.specs.Prelude.{
+  ◌≡◌,
+  ◌≤◌,
+  ◌<◌,
+  ◌+◌,
+  ◌^◌,
+  ◌++◌,
+  ◌↔◌,
+  ℕ,
+  List,
+  length,
+  Some,
+  IsSome,
+  IfSome,
+  IsSomeAnd,
+};
 ghost use Rattle.ec_model.specs.Bodies.{version_say, chip_say, sysinfo_say};
 
 use crate::columns::{Columns, put_u32};
@@ -59,6 +74,23 @@ pub struct ChipSay {
 }
 
 impl ChipSay {
+    /// The fields that 96 bytes spell.
+    pub fn from_bytes(bytes: &[u8]) -> Self
+        requires { length bytes.now ≡ 96 }
+        ensures spelled { bytes.now ≡ chip_say result.vendor result.name result.revision }
+        ensures back { (vendor name revision : List ℕ) →
+            length vendor ≡ 32 → length name ≡ 32 → length revision ≡ 32 →
+            bytes.now ≡ chip_say vendor name revision →
+            result ≡ record { vendor = vendor; name = name; revision = revision } }
+    {
+        let mut columns = Columns::new(bytes);
+        ChipSay {
+            vendor: columns.bytes(),
+            name: columns.bytes(),
+            revision: columns.bytes(),
+        }
+    }
+
     /// The fields that the bytes spell; None exactly where they are not 96 bytes.
     pub fn read(bytes: &[u8]) -> Option<Self>
         ensures some { IsSome result ↔ (length bytes.now ≡ 96) }
@@ -68,12 +100,11 @@ impl ChipSay {
             bytes.now ≡ chip_say vendor name revision →
             result ≡ Some (record { vendor = vendor; name = name; revision = revision }) }
     {
-        let mut columns = Columns::of(bytes, 96)?;
-        Some(ChipSay {
-            vendor: columns.bytes(),
-            name: columns.bytes(),
-            revision: columns.bytes(),
-        })
+        if bytes.len() == 96 {
+            Some(ChipSay::from_bytes(bytes))
+        } else {
+            None
+        }
     }
 
     /// Appends the 96 bytes that spell the fields.

@@ -5,6 +5,9 @@ ghost use Rattle.ec_model.specs.Bodies.{test_ask, test_say};
 use crate::columns::{Columns, put_u32};
 use ec_packet::Packet;
 
+// How many bytes the buffer has.
+const BUFFER_LENGTH: usize = 32;
+
 /// TEST_PROTOCOL's request.
 #[derive(Clone, Copy, Debug, PartialEq, Eq)]
 pub struct TestAsk {
@@ -13,7 +16,7 @@ pub struct TestAsk {
     /// How many bytes of the buffer are wanted back.
     pub ret_len: u32,
     /// The buffer.
-    pub buf: [u8; 32],
+    pub buf: [u8; BUFFER_LENGTH],
 }
 
 impl TestAsk {
@@ -58,7 +61,7 @@ impl TestSay {
         ensures some { IsSome result ↔ (length bytes.now ≤ 32) }
         ensures spelled { IfSome result (λ say. bytes.now ≡ test_say say.bytes) }
     {
-        if bytes.len() > 32 {
+        if bytes.len() > BUFFER_LENGTH {
             return None;
         }
         Some(TestSay {

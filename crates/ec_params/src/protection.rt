@@ -51,6 +51,22 @@ pub struct FlashProtectSay {
 }
 
 impl FlashProtectSay {
+    /// The fields that 12 bytes spell.
+    pub fn from_bytes(bytes: &[u8]) -> Self
+        requires { length bytes.now ≡ 12 }
+        ensures spelled { bytes.now ≡ flash_protect_say result.flags result.valid result.writable }
+        ensures back { (flags valid writable : ℕ) → flags < 2 ^ 32 → valid < 2 ^ 32 → writable < 2 ^ 32 →
+            bytes.now ≡ flash_protect_say flags valid writable →
+            result ≡ record { flags = flags; valid = valid; writable = writable } }
+    {
+        let mut columns = Columns::new(bytes);
+        FlashProtectSay {
+            flags: columns.u32(),
+            valid: columns.u32(),
+            writable: columns.u32(),
+        }
+    }
+
     /// The fields that the bytes spell; None exactly where they are not 12 bytes.
     pub fn read(bytes: &[u8]) -> Option<Self>
         ensures some { IsSome result ↔ (length bytes.now ≡ 12) }
@@ -59,12 +75,11 @@ impl FlashProtectSay {
             bytes.now ≡ flash_protect_say flags valid writable →
             result ≡ Some (record { flags = flags; valid = valid; writable = writable }) }
     {
-        let mut columns = Columns::of(bytes, 12)?;
-        Some(FlashProtectSay {
-            flags: columns.u32(),
-            valid: columns.u32(),
-            writable: columns.u32(),
-        })
+        if bytes.len() == 12 {
+            Some(FlashProtectSay::from_bytes(bytes))
+        } else {
+            None
+        }
     }
 
     /// Appends the 12 bytes that spell the fields.
@@ -118,6 +133,20 @@ pub struct RegionInfoSay {
 }
 
 impl RegionInfoSay {
+    /// The fields that 8 bytes spell.
+    pub fn from_bytes(bytes: &[u8]) -> Self
+        requires { length bytes.now ≡ 8 }
+        ensures spelled { bytes.now ≡ region_info_say result.offset result.size }
+        ensures back { (offset size : ℕ) → offset < 2 ^ 32 → size < 2 ^ 32 → bytes.now ≡ region_info_say offset size →
+            result ≡ record { offset = offset; size = size } }
+    {
+        let mut columns = Columns::new(bytes);
+        RegionInfoSay {
+            offset: columns.u32(),
+            size: columns.u32(),
+        }
+    }
+
     /// The fields that the bytes spell; None exactly where they are not 8 bytes.
     pub fn read(bytes: &[u8]) -> Option<Self>
         ensures some { IsSome result ↔ (length bytes.now ≡ 8) }
@@ -125,11 +154,11 @@ impl RegionInfoSay {
         ensures back { (offset size : ℕ) → offset < 2 ^ 32 → size < 2 ^ 32 → bytes.now ≡ region_info_say offset size →
             result ≡ Some (record { offset = offset; size = size }) }
     {
-        let mut columns = Columns::of(bytes, 8)?;
-        Some(RegionInfoSay {
-            offset: columns.u32(),
-            size: columns.u32(),
-        })
+        if bytes.len() == 8 {
+            Some(RegionInfoSay::from_bytes(bytes))
+        } else {
+            None
+        }
     }
 
     /// Appends the 8 bytes that spell the fields.

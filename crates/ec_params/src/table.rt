@@ -2,15 +2,34 @@
 ghost use Rattle.std.specs.Prelude.{◌≡◌};
 ghost use Rattle.ec_model.specs.Commands.{known};
 
-/// The mask of a command's versions, with bit v set where version v is offered; None exactly where the command is not in
-/// the table.
+use crate::command;
+
+// The masks of versions: bit v is set where version v is offered.
+const VERSION_0: u32 = 1 << 0;
+
+const VERSION_1: u32 = 1 << 1;
+
+const VERSIONS_0_AND_1: u32 = VERSION_0 | VERSION_1;
+
+/// The mask of a command's versions, with bit v set where version v is offered; None exactly where the command is not
+/// in the table.
 pub fn known(command: u16) -> Option<u32>
     ensures { result ≡ known command }
 {
     match command {
-        0x0000 | 0x0001 | 0x0005 | 0x0009 | 0x000A | 0x000B | 0x0011 | 0x0013 | 0x00DB => Some(1),
-        0x0008 | 0x0010 | 0x0012 => Some(3),
-        0x0015 | 0x0016 => Some(2),
+        command::PROTO_VERSION
+        | command::HELLO
+        | command::GET_CHIP_INFO
+        | command::GET_COMMS_STATUS
+        | command::TEST_PROTOCOL
+        | command::GET_PROTOCOL_INFO
+        | command::FLASH_READ
+        | command::FLASH_ERASE
+        | command::RESEND_RESPONSE => Some(VERSION_0),
+        command::GET_COMMAND_VERSIONS | command::FLASH_INFO | command::FLASH_WRITE => Some(
+            VERSIONS_0_AND_1,
+        ),
+        command::FLASH_PROTECT | command::FLASH_REGION_INFO => Some(VERSION_1),
         _ => None,
     }
 }

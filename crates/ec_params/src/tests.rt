@@ -48,8 +48,8 @@ fn texts_stand_one_after_the_other(rt: HostRuntime) -> Result<(), Fail> {
 
 #[test]
 fn some_commands_are_known(rt: HostRuntime) {
-    assert_eq!(rt; known(1), Some(1));
-    assert_eq!(rt; known(0x15), Some(2));
-    assert_eq!(rt; known(0x16), Some(2));
+    assert_eq!(rt; known(command::HELLO), Some(1));
+    assert_eq!(rt; known(command::FLASH_PROTECT), Some(2));
+    assert_eq!(rt; known(command::FLASH_REGION_INFO), Some(2));
     assert_eq!(rt; known(0xFFF), None);
 }

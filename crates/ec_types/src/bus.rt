@@ -2,6 +2,14 @@
 ghost use Rattle.std.specs.Prelude.{◌≡◌, ◌≤◌};
 ghost use Rattle.ec_types.specs.Tables.{packet_limit};
 
+use crate::lpc;
+
+/// The byte that says, on LPC and on I2C, that a request of version 3 is there. EC_COMMAND_PROTOCOL_3
+pub const COMMAND_PROTOCOL_3: u8 = 0xDA;
+
+/// The most bytes of a packet on any bus.
+pub const LARGEST_PACKET: usize = 544;
+
 /// The bus between the host and the controller.
 #[derive(Clone, Copy, Debug, PartialEq, Eq)]
 pub enum BusKind {
@@ -17,8 +25,8 @@ pub fn limit_of(bus: BusKind) -> u16
     ensures most { result ≤ 544 }
 {
     match bus {
-        BusKind::Lpc => 256,
+        BusKind::Lpc => lpc::PACKET_SIZE,
         BusKind::I2c => 128,
-        BusKind::Spi => 544,
+        BusKind::Spi => LARGEST_PACKET as u16,
     }
 }

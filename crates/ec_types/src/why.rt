@@ -1,6 +1,9 @@
 // What is wrong with a line of a script.
 use thiserror::Error;
 
+/// The most bytes of a script's line.
+pub const LONGEST_LINE: usize = 16_384;
+
 /// The first fault of a script's line. Each text fits behind "line N: ".
 #[derive(Clone, Copy, Debug, PartialEq, Eq, Error)]
 pub enum Why {

@@ -16,7 +16,7 @@ use Rattle.flash_dev.specs.declared.hurt.Hurt.TheVariants.{Whole, Failed, Cut}
 use Rattle.ec_model.specs.Upset.{access_byte, event_byte, is_world, is_world_event, is_changed, is_whole, is_hurt, is_cut_entry, is_upset, IsUndisturbed}
 use Rattle.ec_model.specs.HostCalls.{HostCall, with_byte, call_before, calls_of}
 use Rattle.ec_wire.specs.Calls.{WireView, RoseBy, Grows, is_failed_entry, is_wire_step}
-use Rattle.ec_wire.specs.Quiet.{IsCalm, quiet_entry}
+use Rattle.ec_wire.specs.Quiet.{StaysCalm, quiet_entry}
 
 -- a count that did not rise was raised by nothing
 pub none-rose : (amount before now : ℕ) → RoseBy amount before now → ¬ Rose before now → amount ≡ 0
@@ -67,7 +67,7 @@ undisturbed-by (entry ∷ entries) world failed cut changed =
     ap (λ (first : Bool). first || list_any is_upset entries) here ∙ rest
 
 -- where nothing of the world is armed, and neither faults nor cuts are counted, nothing disturbs the entries
-pub undisturbed : (added : List Entry) (old new : WireView) → Grows added old new → IsCalm old new → IsUndisturbed added
+pub undisturbed : (added : List Entry) (old new : WireView) → Grows added old new → StaysCalm old new → IsUndisturbed added
 undisturbed added old new grows calm =
     let quiet = grows.quiet calm.disarmed in
     undisturbed-by added quiet.no_event

@@ -10,7 +10,7 @@ use Rattle.ec_model.specs.Upset.{access_byte}
 use Rattle.ec_wire.specs.Calls.{WireView}
 
 -- nothing of the world was armed, and the flash counted neither a fault nor a cut
-pub record IsCalm (old new : WireView) : Type 0 where
+pub record StaysCalm (old new : WireView) : Type 0 where
   pub disarmed : IsFalse old.armed
   pub no_fault : ¬ Rose old.faults new.faults
   pub no_cut : ¬ Rose old.cuts new.cuts

@@ -4,7 +4,7 @@ ghost use Rattle.ec_types.specs.Tables.{packet_limit};
 ghost use Rattle.ec_types.specs.declared.bus.BusKind.{BusKind};
 ghost use Rattle.ec_model.specs.Packet.{is_response};
 ghost use Rattle.ec_model.specs.Bus.{BusState, kind_of, fresh_bus, bus_step, due_now, replied};
-ghost use Rattle.ec_wire.specs.Dues.{due_of, asked_of};
+ghost use Rattle.ec_wire.specs.Dues.{due_of, waiting_request};
 
 use ec_model::Access;
 use ec_packet::Packet;
@@ -45,14 +45,14 @@ pub trait Bus {
         ensures { result ≡ due_of (state self.now) };
 
     /// The request that waits.
-    fn asked(&self) -> &[u8]
-        requires { IsSome (asked_of (state self.now)) }
-        ensures asked { asked_of (state self.now) ≡ Some result.now }
+    fn waiting(&self) -> &[u8]
+        requires { IsSome (waiting_request (state self.now)) }
+        ensures waiting { waiting_request (state self.now) ≡ Some result.now }
         ensures short { length result.now ≤ 544 };
 
     /// Takes the response to the request that waits.
     fn reply(&mut self, packet: &Packet)
-        requires due { IsSome (asked_of (state self.old)) }
+        requires due { IsSome (waiting_request (state self.old)) }
         requires response { IsTrue (is_response packet.now) }
         requires short { length packet.now ≤ packet_limit bus }
         ensures { state self.new ≡ replied packet.now (state self.old) };

@@ -4,7 +4,7 @@ ghost use Rattle.ec_model.specs.declared.event.Entry.{Entry};
 ghost use Rattle.ec_model.specs.HostCalls.{calls_of};
 ghost use Rattle.ec_model.specs.Upset.{IsUndisturbed};
 ghost use Rattle.ec_wire.specs.Calls.{WireView, Grows};
-ghost use Rattle.ec_wire.specs.Quiet.{IsCalm, quiet_entry};
+ghost use Rattle.ec_wire.specs.Quiet.{StaysCalm, quiet_entry};
 
 /// Calls behind others are calls.
 pub fn calls_compose()
@@ -15,7 +15,7 @@ pub fn calls_compose()
 /// Where nothing of the world is armed, and the flash counts neither a fault nor a cut, nothing disturbs the calls.
 /// The host's calls determine the entries where nothing disturbs them.
 pub fn quiet_calls()
-    ensures undisturbed { (added : List Entry) (old new : WireView) → Grows added old new → IsCalm old new →
+    ensures undisturbed { (added : List Entry) (old new : WireView) → Grows added old new → StaysCalm old new →
         IsUndisturbed added }
     ensures determined { (added : List Entry) (old new : WireView) → Grows added old new → IsUndisturbed added →
         added ≡ map quiet_entry (calls_of added) }

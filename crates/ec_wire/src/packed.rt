@@ -1,8 +1,17 @@
-// An entry of a journal in 8 bytes: one for the kind of entry, its event and what a flash call did inside it, one that is
-// spare, two for a port, and four for the bytes of a step or the line of a mark.
+// An entry of a journal in 8 bytes: one for the kind of entry, its event and what a flash call did inside it, one that
+// is spare, two for a port, and four for the bytes of a step or the line of a mark.
 ghost use Rattle.std.specs.Prelude.{◌≡◌};
 ghost use Rattle.ec_model.specs.Upset.{event_byte};
-ghost use Rattle.ec_wire.specs.Packing.{access_number, event_number, hurt_number, event_port, numbered_access, numbered_event, numbered_hurt, unpacked};
+ghost use Rattle.ec_wire.specs.Packing.{
+  access_number,
+  event_number,
+  hurt_number,
+  event_port,
+  numbered_access,
+  numbered_event,
+  numbered_hurt,
+  unpacked,
+};
 
 use ec_model::{Access, Entry, Event, Hurt, WorldReset};
 

@@ -2,6 +2,7 @@
 use crate::Journal;
 use crate::packed::Packed;
 use ec_model::{Access, Entry, Event, Hurt};
+use ec_types::{COMMAND_PROTOCOL_3, lpc};
 use std::mem::size_of;
 use std::test::Fail;
 
@@ -10,12 +11,12 @@ fn keeps_what_was_pushed(rt: HostRuntime) -> Result<(), Fail> {
     let step = Entry::Step {
         event: Event::Access {
             a: Access::PortOut {
-                port: 0x204,
-                byte: 0xDA,
+                port: lpc::COMMAND_PORT,
+                byte: COMMAND_PROTOCOL_3,
             },
         },
         answer: 0,
-        meant: 0xDA,
+        meant: COMMAND_PROTOCOL_3,
         seen: 0,
         hurt: Hurt::Whole,
     };

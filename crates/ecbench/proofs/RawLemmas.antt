@@ -10,8 +10,8 @@ use Rattle.ec_model.specs.WholeStep.{stepped}
 use Rattle.ec_model.proofs.RunLaws.{run-valid, run-kind}
 use Rattle.ec_wire.specs.Quiet.{quiet_entry}
 use Rattle.ec_wire.proofs.Calm.{determined}
-use Rattle.host_runs.specs.Calm.{CallsLead}
-use Rattle.host_runs.proofs.CalmRun.{calm_lead}
+use Rattle.exchange_laws.specs.Calm.{CallsLead}
+use Rattle.exchange_laws.proofs.CalmRun.{calm_lead}
 use Rattle.ectool_lines.proofs.AnswerLemmas.{Ready, quiet-on}
 use Rattle.ecbench.specs.Endings.{MakesSeen, MakesWhole}
 use Rattle.ecbench.proofs.EventLemmas.{on-by}

@@ -13,7 +13,7 @@ use Rattle.ec_model.specs.Work.{After}
 use Rattle.ec_model.specs.WholeStep.{stepped}
 use Rattle.ec_model.specs.Upset.{is_whole, is_hurt, is_world, is_changed, is_upset, AreWhole, IsUndisturbed}
 use Rattle.ec_model.proofs.RunLaws.{run-split}
-use Rattle.host_runs.proofs.CalmRun.{whole_step}
+use Rattle.exchange_laws.proofs.CalmRun.{whole_step}
 use Rattle.ectool_lines.specs.Requests.{commands_of}
 use Rattle.ectool_lines.proofs.AnswerLemmas.{Ready, EachAnswered, each-answered, tool-proper}
 use Rattle.ecbench.specs.declared.run.Exit.{Exit}

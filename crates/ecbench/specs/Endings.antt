@@ -24,7 +24,7 @@ use Rattle.flash_dev.specs.declared.hurt.Hurt.{Hurt}
 use Rattle.flash_dev.specs.declared.hurt.Hurt.TheVariants.{Whole, Cut}
 use Rattle.ec_wire.specs.Calls.{is_wire_step}
 use Rattle.ec_wire.specs.Quiet.{quiet_entry}
-use Rattle.host_runs.specs.Calm.{CallsLead}
+use Rattle.exchange_laws.specs.Calm.{CallsLead}
 use Rattle.ectool_lines.specs.Running.{Appends}
 use Rattle.ectool_lines.specs.Asking.{Hears}
 use Rattle.ectool_lines.specs.Answering.{Answers}

@@ -17,15 +17,15 @@ use Rattle.ec_model.specs.Upset.{is_upset, IsUndisturbed}
 use Rattle.ec_model.proofs.RunLaws.{run-valid, run-split}
 use Rattle.ec_model.proofs.ValidRows.{IsCoreValid}
 use Rattle.ec_wire.specs.Quiet.{quiet_entry}
-use Rattle.host_runs.specs.Exchange.{first_statuses, lpc_exchange, IsExchange}
-use Rattle.host_runs.specs.Served.{IsPlain, IsAnswer}
-use Rattle.host_runs.proofs.CalmRun.{calm_lead}
-use Rattle.host_runs.proofs.LpcSend.{bus-facts, settled-valid, lpc-calm}
-use Rattle.host_runs.specs.Calm.{CallsLead}
-use Rattle.host_runs.proofs.CalmRun.{calm_lead}
-use Rattle.host_runs.proofs.LpcExchange.{exchange-run}
-use Rattle.host_runs.proofs.Plain.{plain-answered}
-use Rattle.host_runs.proofs.Response.{eq-true}
+use Rattle.exchange_laws.specs.Exchange.{first_statuses, lpc_exchange_calls, IsExchange}
+use Rattle.exchange_laws.specs.Served.{IsPlain, IsAnswer}
+use Rattle.exchange_laws.proofs.CalmRun.{calm_lead}
+use Rattle.exchange_laws.proofs.LpcSend.{bus-facts, settled-valid, lpc-calm}
+use Rattle.exchange_laws.specs.Calm.{CallsLead}
+use Rattle.exchange_laws.proofs.CalmRun.{calm_lead}
+use Rattle.exchange_laws.proofs.LpcExchange.{exchange-run}
+use Rattle.exchange_laws.proofs.Plain.{plain-answered}
+use Rattle.exchange_laws.proofs.Response.{eq-true}
 use Rattle.host_transport.specs.Once.{Ending, Said, ended, heard_as, Bad}
 use Rattle.ectool_lines.specs.declared.tool.Tool.{Tool}
 use Rattle.ectool_lines.specs.Tools.{IsInRange}
@@ -106,7 +106,7 @@ answered-by table last first awake asked entries ending after (Answered new stat
     let exchange : IsExchange (first_statuses table) (packet_of asked) response new entries sent.heard last =
     exchange-run table awake (packet_of asked) entries sent.heard last new status body ready.valid ready.kind on proper.plain proper.short sent.sent run calm hears.steps same in
     let left = exchange.exchanges in
-    let still : on_after entries true ≡ true = ap (λ (e : List Entry). on_after e true) exchange.entries ∙ quiet-on (lpc_exchange (first_statuses table) (packet_of asked) response) true in
+    let still : on_after entries true ≡ true = ap (λ (e : List Entry). on_after e true) exchange.entries ∙ quiet-on (lpc_exchange_calls (first_statuses table) (packet_of asked) response) true in
     let heard : ended (on_after entries true) (heard_as asked.want sent.heard) ≡ Said status body =
     ap (λ (o : Bool). ended o (heard_as asked.want sent.heard)) still ∙ ap (heard_as asked.want) left.heard_is ∙ heard-said asked.want status body wanted.0 wanted.1 in
     record {

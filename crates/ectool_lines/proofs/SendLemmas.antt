@@ -13,8 +13,8 @@ use Rattle.ec_model.specs.InfoRows.{zero_padded}
 use Rattle.ec_model.specs.declared.event.Entry.{Entry}
 use Rattle.ec_wire.specs.Calls.{WireView, Grows}
 use Rattle.ec_wire.proofs.Growth.{grows-nil, grows-then}
-use Rattle.host_runs.specs.Served.{IsPlain, is_cold_body}
-use Rattle.host_runs.proofs.Spelled.{plain-spelled}
+use Rattle.exchange_laws.specs.Served.{IsPlain, is_cold_body}
+use Rattle.exchange_laws.proofs.Spelled.{plain-spelled}
 use Rattle.host_transport.specs.Once.{Ending, Said, AskedOnce, AsksOnce}
 use Rattle.host_transport.specs.Ends.{ending_of}
 use Rattle.host_transport.specs.declared.ending.Once.{Once}

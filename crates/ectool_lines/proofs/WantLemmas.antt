@@ -15,7 +15,7 @@ use Rattle.ec_model.specs.FlashRows.{asked_range, flash_read_row, flash_write_ro
 use Rattle.ec_model.specs.Handle.{Admitted, row_of, admitted_from, handled}
 use Rattle.ec_model.proofs.GuardSteps.{if_cases}
 use Rattle.ec_model.proofs.ValidRows.{IsCoreValid}
-use Rattle.host_runs.proofs.Spelled.{framing-spelled}
+use Rattle.exchange_laws.proofs.Spelled.{framing-spelled}
 use Rattle.ectool_lines.specs.declared.tool.Tool.{Tool}
 use Rattle.ectool_lines.specs.declared.tool.Tool.TheVariants.{Hello, ChipInfo, CmdVersions, ProtoInfo, FlashInfo, RegionInfo, FlashRead, FlashWrite, FlashProtect, Test, Resend}
 use Rattle.ectool_lines.specs.Tools.{IsInRange}

@@ -10,8 +10,8 @@ use Rattle.ec_model.specs.Answer.{Answered}
 use Rattle.ec_model.specs.Handle.{handled}
 use Rattle.ec_model.specs.Syncable.{settled}
 use Rattle.ec_wire.specs.Quiet.{quiet_entry}
-use Rattle.host_runs.specs.Calm.{CallsLead}
-use Rattle.host_runs.specs.Exchange.{first_statuses, lpc_exchange}
+use Rattle.exchange_laws.specs.Calm.{CallsLead}
+use Rattle.exchange_laws.specs.Exchange.{first_statuses, lpc_exchange_calls}
 use Rattle.host_transport.specs.Once.{Ending, Said, NoPower}
 use Rattle.ectool_lines.specs.Requests.{Asked, packet_of}
 
@@ -25,9 +25,9 @@ pub record IsAnswered (old : Table) (asked : Asked) (entries : List Entry) (endi
   pub window : List ℕ
   pub on : (settled old).power ≡ On awake
   pub handled_is : handled (core_of (settled old) awake) (packet_limit Lpc) (packet_of asked) ≡ Answered after status body
-  pub entries_are : entries ≡ map quiet_entry (lpc_exchange (first_statuses old) (packet_of asked) (response_packet status body))
+  pub entries_are : entries ≡ map quiet_entry (lpc_exchange_calls (first_statuses old) (packet_of asked) (response_packet status body))
   pub ending_is : ending ≡ Said status body
-  pub leads : CallsLead old (lpc_exchange (first_statuses old) (packet_of asked) (response_packet status body)) new
+  pub leads : CallsLead old (lpc_exchange_calls (first_statuses old) (packet_of asked) (response_packet status body)) new
   pub new_is :
       new ≡ table_of after (OnLpc (record { window = window; status = 0; outcome = low_status (response_packet status body) }))
 

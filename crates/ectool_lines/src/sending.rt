@@ -3,7 +3,7 @@ ghost use Rattle.std.specs.Prelude.{◌≡◌, ◌≤◌, ◌+◌, length, drop}
 ghost use Rattle.flash_dev.specs.Counts.{Rose};
 ghost use Rattle.ec_types.specs.declared.bus.BusKind.TheVariants.{Lpc as LpcKind};
 ghost use Rattle.ectool_lines.specs.Tools.{IsInRange};
-ghost use Rattle.host_runs.specs.Served.{IsPlain};
+ghost use Rattle.exchange_laws.specs.Served.{IsPlain};
 ghost use Rattle.host_transport.specs.Once.{AsksOnce};
 ghost use Rattle.host_transport.specs.Ends.{ending_of};
 ghost use Rattle.ectool_lines.specs.Requests.{packet_of};

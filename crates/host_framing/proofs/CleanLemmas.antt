@@ -22,17 +22,17 @@ use Rattle.ec_model.specs.Heard.{Heard, Silent}
 use Rattle.ec_model.specs.Syncable.{settled}
 use Rattle.ec_wire.specs.Calls.{WireView, Grows, Agrees}
 use Rattle.ec_wire.proofs.Calm.{or-false, calm_entry, undisturbed}
-use Rattle.host_runs.specs.Calm.{CallsLead}
-use Rattle.host_runs.specs.Exchange.{first_statuses, IsExchange}
-use Rattle.host_runs.specs.Served.{IsPlain, Serves, Settles}
-use Rattle.host_runs.proofs.CalmRun.{calm_lead}
-use Rattle.host_runs.proofs.LpcSend.{lpc-calm, lpc-quiet}
-use Rattle.host_runs.proofs.LpcExchange.{exchange-run}
-use Rattle.host_runs.proofs.LpcEnds.{lpc-ends}
-use Rattle.host_runs.proofs.OffLead.{lpc-off}
-use Rattle.host_runs.proofs.Rests.{ends-rest}
+use Rattle.exchange_laws.specs.Calm.{CallsLead}
+use Rattle.exchange_laws.specs.Exchange.{first_statuses, IsExchange}
+use Rattle.exchange_laws.specs.Served.{IsPlain, ServesPacket, Settles}
+use Rattle.exchange_laws.proofs.CalmRun.{calm_lead}
+use Rattle.exchange_laws.proofs.LpcSend.{lpc-calm, lpc-quiet}
+use Rattle.exchange_laws.proofs.LpcExchange.{exchange-run}
+use Rattle.exchange_laws.proofs.LpcEnds.{lpc-ends}
+use Rattle.exchange_laws.proofs.OffLead.{lpc-off}
+use Rattle.exchange_laws.proofs.Rests.{ends-rest}
 use Rattle.host_framing.specs.Parts.{Sends, Quiets}
-use Rattle.host_framing.specs.Clean.{since, UndisturbedWhereCalm, ServesWhereCalm, SettlesWhereCalm, ExchangesWhereCalm, IsCaused, CausedWhereCalm, RestsBehind}
+use Rattle.host_framing.specs.Clean.{since, UndisturbedWhereCalm, ServesWhereCalm, SettlesWhereCalm, ExchangesWhereCalm, IsExplained, CausedWhereCalm, RestsBehind}
 
 -- the entries that were added are those behind the others
 pub since-added : (added : List Entry) (old new : WireView) → Grows added old new → since old new ≡ added
@@ -92,7 +92,7 @@ on-or-off table (On awake) same = IsOn awake same
 
 -- what a law says of a send to a controller that is on
 abbrev ServesOn : BusKind → List ℕ → Heard → List HostCall → Type 0
-ServesOn bus packet heard calls = (told : Table) (awake : Awake) (left : Table) → Valid told → told.power ≡ On awake → told.kind ≡ bus → CallsLead told calls left → Serves packet (settled told) heard left
+ServesOn bus packet heard calls = (told : Table) (awake : Awake) (left : Table) → Valid told → told.power ≡ On awake → told.kind ≡ bus → CallsLead told calls left → ServesPacket packet (settled told) heard left
 
 -- what it says of one to a controller that is off
 abbrev SilentOff : Heard → List HostCall → Type 0
@@ -107,7 +107,7 @@ off-on : (old : WireView) (told : Table) → told.power ≡ Off → Agrees old.b
 off-on old told off agrees = sym agrees.on_is ∙ ap (λ (power : Power). is_on power) off
 
 -- an undisturbed send, by whether the controller is on
-serves-by : (bus : BusKind) (packet : List ℕ) (heard : Heard) (old : WireView) (told left : Table) (calls : List HostCall) → ServesOn bus packet heard calls → OnOrOff told → old.bus ≡ bus → Agrees old.bus old.on told → old.on ≡ true → CallsLead told calls left → Serves packet (settled told) heard left
+serves-by : (bus : BusKind) (packet : List ℕ) (heard : Heard) (old : WireView) (told left : Table) (calls : List HostCall) → ServesOn bus packet heard calls → OnOrOff told → old.bus ≡ bus → Agrees old.bus old.on told → old.on ≡ true → CallsLead told calls left → ServesPacket packet (settled told) heard left
 serves-by bus packet heard old told left calls law (IsOff off) kind agrees on lead = let dark = off-on old told off agrees in absurd (cc)
 serves-by bus packet heard old told left calls law (IsOn awake is) kind agrees on lead = law told awake left agrees.valid is (agrees.kind_is ∙ kind) lead
 
@@ -118,11 +118,11 @@ serves-calm bus packet heard old new kind sends law =
     serves-by bus packet heard old told left (calls_of sends.added) law (on-or-off told told.power refl) kind agrees on (lead-since sends.added old new told left sends.grows run calm)) sends.grows.run
 
 -- a send that was served heard a reply
-caused-on : (packet : List ℕ) (heard : Heard) (table left : Table) (on : Bool) → Serves packet table heard left → IsCaused heard on
+caused-on : (packet : List ℕ) (heard : Heard) (table left : Table) (on : Bool) → ServesPacket packet table heard left → IsExplained heard on
 caused-on packet heard table left on serves = rw serves.heard_is tt
 
 -- what an undisturbed send heard, by whether the controller is on
-caused-by : (bus : BusKind) (packet : List ℕ) (heard : Heard) (old new : WireView) (told left : Table) (calls : List HostCall) → ServesOn bus packet heard calls → SilentOff heard calls → OnOrOff told → old.bus ≡ bus → Agrees old.bus old.on told → new.on ≡ old.on → CallsLead told calls left → IsCaused heard new.on
+caused-by : (bus : BusKind) (packet : List ℕ) (heard : Heard) (old new : WireView) (told left : Table) (calls : List HostCall) → ServesOn bus packet heard calls → SilentOff heard calls → OnOrOff told → old.bus ≡ bus → Agrees old.bus old.on told → new.on ≡ old.on → CallsLead told calls left → IsExplained heard new.on
 caused-by bus packet heard old new told left calls law silence (IsOff off) kind agrees on lead =
     let silent = silence told left off lead in
     rw silent (on ∙ off-on old told off agrees)

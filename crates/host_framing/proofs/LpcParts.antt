@@ -9,12 +9,12 @@ use Rattle.ec_model.specs.Heard.{Heard, Bad, Silent, waited_reads, spaced_reads,
 use Rattle.ec_model.specs.SendLpc.{status_in, LpcSend, LpcWasBlocked, LpcWasUnserved, LpcWasServed}
 use Rattle.ec_model.specs.Send.{LpcQuiet}
 use Rattle.ec_wire.specs.Calls.{WireView, Made}
-use Rattle.host_framing.specs.Parts.{PollsWaited, PollsSpaced, WritesPorts, ReadsPorts, LpcAsks, LpcHears, Quiets, Sends}
+use Rattle.host_framing.specs.Parts.{PollsWaited, PollsSpaced, WritesWindow, ReadsWindow, LpcAsks, LpcHears, Quiets, Sends}
 use Rattle.ec_wire.proofs.Growth.{made-then, made-as}
 use Rattle.host_framing.proofs.PollLemmas.{port_reads-append}
 
 -- the packet was written, and the command byte
-pub asks-written : (packet bytes : List ℕ) (got : ℕ) (old first second new : WireView) → bytes ≡ packet → PollsSpaced true old first → WritesPorts bytes first second → Made (Did (PortOut 0x204 0xDA) got ∷ []) second new → LpcAsks packet true old new
+pub asks-written : (packet bytes : List ℕ) (got : ℕ) (old first second new : WireView) → bytes ≡ packet → PollsSpaced true old first → WritesWindow bytes first second → Made (Did (PortOut 0x204 0xDA) got ∷ []) second new → LpcAsks packet true old new
 asks-written packet bytes got old first second new same polls writes commanded =
     let made = made-then _ _ _ _ _ (made-then _ _ _ _ _ polls.made writes.made) commanded in
     record {
@@ -73,7 +73,7 @@ fits : (n : ℕ) → n ≤ 248 → nat_le n 248 ≡ true
 fits n short = grind (arith, leb_tells)
 
 -- a header that names too long a body
-pub hears-long : (outcome : ℕ) (cleared after : List ℕ) (old first new : WireView) → cleared ≡ [] → Made (Did (PortIn 0x200) outcome ∷ []) old first → ReadsPorts 0x800 8 cleared after first new → 248 < response_length after → LpcHears Bad old new
+pub hears-long : (outcome : ℕ) (cleared after : List ℕ) (old first new : WireView) → cleared ≡ [] → Made (Did (PortIn 0x200) outcome ∷ []) old first → ReadsWindow 0x800 8 cleared after first new → 248 < response_length after → LpcHears Bad old new
 hears-long outcome cleared after old first new none result header long =
     let same : after ≡ header.bytes = header.appended ∙ ap (λ (xs : List ℕ). xs ++ header.bytes) none in
     let off : reads_on 248 header.bytes ≡ false = too_long (response_length header.bytes) (subst (λ (xs : List ℕ). 248 < response_length xs) same long) in
@@ -86,8 +86,8 @@ hears-long outcome cleared after old first new none result header long =
     }
 
 -- a header, and the body that it names
-pub hears-whole : (outcome : ℕ) (cleared after bytes : List ℕ) (heard : Heard) (old first second new : WireView) → cleared ≡ [] → Made (Did (PortIn 0x200) outcome ∷ []) old first → ReadsPorts 0x800 8 cleared after first second →
-    response_length after ≤ 248 → ReadsPorts 0x808 (response_length after) after bytes second new → heard ≡ heard_with outcome bytes → LpcHears heard old new
+pub hears-whole : (outcome : ℕ) (cleared after bytes : List ℕ) (heard : Heard) (old first second new : WireView) → cleared ≡ [] → Made (Did (PortIn 0x200) outcome ∷ []) old first → ReadsWindow 0x800 8 cleared after first second →
+    response_length after ≤ 248 → ReadsWindow 0x808 (response_length after) after bytes second new → heard ≡ heard_with outcome bytes → LpcHears heard old new
 hears-whole outcome cleared after bytes heard old first second new none result header short body judged =
     let same : after ≡ header.bytes = header.appended ∙ ap (λ (xs : List ℕ). xs ++ header.bytes) none in
     let all : bytes ≡ header.bytes ++ body.bytes = body.appended ∙ ap (λ (xs : List ℕ). xs ++ body.bytes) same in

@@ -23,13 +23,13 @@ pub record PollsSpaced (ready : Bool) (old new : WireView) : Type 0 where
   pub made : Made (spaced_reads status_in statuses) old new
 
 -- these bytes were written to the window
-pub record WritesPorts (bytes : List ℕ) (old new : WireView) : Type 0 where
+pub record WritesWindow (bytes : List ℕ) (old new : WireView) : Type 0 where
   pub gots : List ℕ
   pub each : length gots ≡ length bytes
   pub made : Made (port_writes 0x800 bytes gots) old new
 
 -- so many bytes were read from the ports on, and appended
-pub record ReadsPorts (port count : ℕ) (before after : List ℕ) (old new : WireView) : Type 0 where
+pub record ReadsWindow (port count : ℕ) (before after : List ℕ) (old new : WireView) : Type 0 where
   pub bytes : List ℕ
   pub each : length bytes ≡ count
   pub appended : after ≡ before ++ bytes

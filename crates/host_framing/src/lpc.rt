@@ -1,43 +1,64 @@
-// The sequences on LPC: a window of 256 bytes for the packet, a port that shows the status and takes the command byte, and
-// one that shows the low byte of the result.
+// The sequences on LPC: a window of 256 bytes for the packet, a port that shows the status and takes the command byte,
+// and one that shows the low byte of the result.
 ghost use Rattle.std.specs.Prelude.{◌≡◌, ◌≤◌, ◌+◌, ◌∷◌, [], ℕ, length};
 ghost use Rattle.ec_model.specs.Packet.{response_length};
 ghost use Rattle.ec_model.specs.Bus.{is_busy};
 ghost use Rattle.ec_types.specs.declared.bus.BusKind.TheVariants.{Lpc as LpcKind};
-ghost use Rattle.host_framing.specs.Parts.{PollsWaited, PollsSpaced, WritesPorts, ReadsPorts, LpcAsks, LpcHears, Quiets, Sends};
+ghost use Rattle.host_framing.specs.Parts.{
+  PollsWaited,
+  PollsSpaced,
+  WritesWindow,
+  ReadsWindow,
+  LpcAsks,
+  LpcHears,
+  Quiets,
+  Sends,
+};
 ghost use Rattle.host_framing.specs.Heard.{heard_of};
-ghost use Rattle.host_framing.specs.Clean.{UndisturbedWhereCalm, ServesWhereCalm, SettlesWhereCalm, ExchangesWhereCalm, CausedWhereCalm, RestsBehind};
-ghost use Rattle.host_runs.specs.Served.{IsPlain};
+ghost use Rattle.host_framing.specs.Clean.{
+  UndisturbedWhereCalm,
+  ServesWhereCalm,
+  SettlesWhereCalm,
+  ExchangesWhereCalm,
+  CausedWhereCalm,
+  RestsBehind,
+};
+ghost use Rattle.exchange_laws.specs.Served.{IsPlain};
 
 use crate::calls::{Raw, did, judge, waited};
 use byteorder::{ByteOrder, LittleEndian};
 use ec_model::Access;
-use ec_packet::Packet;
+use ec_packet::{HEADER_LENGTH, Packet};
+use ec_types::{COMMAND_PROTOCOL_3, lpc};
 use ec_wire::Wire;
 
-// The first port of the window.
-const WINDOW: u16 = 0x800;
-
 // A look at the status.
-const LOOK: Access = Access::PortIn { port: 0x204 };
+const LOOK: Access = Access::PortIn {
+    port: lpc::COMMAND_PORT,
+};
 
 // The command byte, which has the controller serve the packet in the window.
 const COMMAND: Access = Access::PortOut {
-    port: 0x204,
-    byte: 0xDA,
+    port: lpc::COMMAND_PORT,
+    byte: COMMAND_PROTOCOL_3,
 };
 
 // A read of the result byte.
-const RESULT: Access = Access::PortIn { port: 0x200 };
+const RESULT: Access = Access::PortIn {
+    port: lpc::DATA_PORT,
+};
+
+// How many ports of the window hold the header of a packet.
+const HEADER: u16 = HEADER_LENGTH as u16;
 
 // The most bytes of a body for which the window has room behind a header.
-const LARGEST_BODY: u16 = 248;
+const LARGEST_BODY: u16 = lpc::PACKET_SIZE - HEADER;
 
 // Whether a status says busy.
 fn busy(status: u8) -> bool
     ensures { result ≡ is_busy status }
 {
-    status & 0x06 != 0
+    status & lpc::BUSY_MASK != 0
 }
 
 // Waits and reads the status until it is not busy, at most four times.
@@ -73,14 +94,14 @@ fn poll_spaced<W: Wire>(w: &mut W) -> bool
 fn write_window<W: Wire>(w: &mut W, bytes: &[u8])
     requires short { length bytes.now ≤ 256 }
     requires room { length bytes.now ≤ (W.view w.old).spare }
-    ensures writes { WritesPorts bytes.now (W.view w.old) (W.view w.new) }
+    ensures writes { WritesWindow bytes.now (W.view w.old) (W.view w.new) }
     ensures room { (W.view w.new).spare + length bytes.now ≡ (W.view w.old).spare }
 {
     for (place, byte) in bytes.iter().enumerate() {
         did(
             w,
             Access::PortOut {
-                port: WINDOW + place as u16,
+                port: lpc::PACKET_PORT + place as u16,
                 byte: *byte,
             },
         );
@@ -92,7 +113,7 @@ fn read_window<W: Wire>(w: &mut W, port: u16, count: u16, reply: &mut Packet)
     requires ports { port + count ≤ 65535 }
     requires short { length reply.old + count ≤ 544 }
     requires room { count ≤ (W.view w.old).spare }
-    ensures reads { ReadsPorts port count reply.old reply.new (W.view w.old) (W.view w.new) }
+    ensures reads { ReadsWindow port count reply.old reply.new (W.view w.old) (W.view w.new) }
     ensures room { (W.view w.new).spare + count ≡ (W.view w.old).spare }
 {
     for place in 0..count {
@@ -132,12 +153,12 @@ fn hear_lpc<W: Wire>(w: &mut W, reply: &mut Packet) -> Raw
 {
     let outcome = did(w, RESULT);
     reply.clear();
-    read_window(w, WINDOW, 8, reply);
+    read_window(w, lpc::PACKET_PORT, HEADER, reply);
     let named = named_length(reply.as_slice());
     if named > LARGEST_BODY {
         return Raw::Bad;
     }
-    read_window(w, WINDOW + 8, named, reply);
+    read_window(w, lpc::PACKET_PORT + HEADER, named, reply);
     judge(outcome, reply)
 }
 

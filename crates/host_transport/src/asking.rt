@@ -2,19 +2,19 @@
 ghost use Rattle.std.specs.Prelude.{◌≡◌, ◌≤◌, ◌+◌, length, drop, IsTrue};
 ghost use Rattle.ec_types.specs.declared.bus.BusKind.TheVariants.{Lpc as LpcKind};
 ghost use Rattle.ec_model.specs.Packet.{request_packet, is_response, response_view};
-ghost use Rattle.host_runs.specs.Served.{IsPlain};
+ghost use Rattle.exchange_laws.specs.Served.{IsPlain};
 ghost use Rattle.host_transport.specs.Once.{AsksOnce, said_by};
 ghost use Rattle.host_transport.specs.Ends.{ending_of};
 
 use crate::ending::Once;
-use ec_packet::{Packet, TooLong, decode_response, encode_request};
-use ec_types::limit_of;
+use ec_packet::{Packet, decode_response, write_request};
+use ec_types::status;
 use ec_wire::Wire;
 use host_framing::{Raw, send_lpc};
 
 /// Sends a request once; `packet` becomes its packet. At a status, `reply` is the reply, whose body stands behind the
-/// header's 8 bytes; a success has a body of `want` bytes. It takes at most 531 entries of the wire's room, and asks for
-/// 1,500.
+/// header's 8 bytes; a success has a body of `want` bytes. It takes at most 531 entries of the wire's room, and asks
+/// for 1,500.
 pub fn once<W: Wire>(
     w: &mut W,
     command: u16,
@@ -28,17 +28,15 @@ pub fn once<W: Wire>(
     requires room { 1500 ≤ (W.view w.old).spare }
     requires short { 8 + length body.now ≤ 256 }
     requires plain { IsPlain (request_packet command version body.now) }
-    ensures asks { AsksOnce (request_packet command version body.now) want (ending_of result (drop 8 reply.new)) (W.view w.old) (W.view w.new) }
+    ensures asks { AsksOnce (request_packet command version body.now) want (ending_of result (drop 8 reply.new))
+        (W.view w.old) (W.view w.new) }
     ensures want { result ≡ Once.Status 0 → length reply.new ≡ 8 + want }
     ensures room { (W.view w.old).spare ≤ (W.view w.new).spare + 531 }
 {
     if !w.power() {
         return Once::NoPower;
     }
-    match encode_request(command, version, body, limit_of(w.kind()), packet) {
-        Ok(()) => {}
-        Err(TooLong) => unreachable!(),
-    }
+    write_request(command, version, body, packet);
     let raw = send_lpc(w, packet, reply);
     if !w.power() {
         return Once::NoPower;
@@ -58,7 +56,7 @@ fn read_reply(want: usize, reply: &Packet) -> Once
 {
     match decode_response(reply.as_slice()) {
         Ok(response) => {
-            if response.status == 0 && response.body.len() != want {
+            if response.status == status::SUCCESS && response.body.len() != want {
                 Once::Bad
             } else {
                 Once::Status(response.status)

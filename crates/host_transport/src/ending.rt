@@ -1,6 +1,8 @@
 // How a request that was sent once ended.
 ghost use Rattle.std.specs.Prelude.{◌≡◌, ◌↔◌, IsTrue};
 
+use ec_types::status;
+
 /// How a request that was sent once ended.
 #[derive(Clone, Copy, Debug, PartialEq, Eq)]
 pub enum Once {
@@ -19,6 +21,6 @@ impl Once {
     pub fn is_success(&self) -> bool
         ensures { IsTrue result ↔ (self.now ≡ Once.Status 0) }
     {
-        matches!(self, Once::Status(0))
+        matches!(self, Once::Status(status::SUCCESS))
     }
 }

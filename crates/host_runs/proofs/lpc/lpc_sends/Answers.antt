@@ -1,9 +1,0 @@
-use Rattle.host_runs.proofs.LpcSend.{lpc-calm}
-use Rattle.host_runs.proofs.OffLead.{lpc-off}
-use Rattle.host_runs.proofs.lpc.lpc_sends.Goals as goal
-
-pub returns-clause-on : goal.returns-clause-on
-returns-clause-on c = lpc-calm
-
-pub returns-clause-off : goal.returns-clause-off
-returns-clause-off c = lpc-off
