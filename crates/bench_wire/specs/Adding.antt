@@ -1,5 +1,5 @@
 -- What one entry makes of a bench.
-use Rattle.std.specs.Prelude.{◌≡◌, ◌+◌, Bool, true, false, IsTrue, IsFalse, List, [], ◌∷◌, ◌++◌, count_by}
+use Rattle.std.specs.Prelude.{◌≡◌, ℕ, ◌+◌, Bool, true, false, IsTrue, List, [], ◌∷◌, ◌++◌, count_by, Option}
 use Rattle.ec_model.specs.declared.event.Event.{Event}
 use Rattle.ec_model.specs.declared.event.Event.TheVariants as event
 use Rattle.ec_model.specs.declared.event.WorldEvent.{WorldEvent}
@@ -9,19 +9,30 @@ use Rattle.ec_model.specs.declared.event.Entry.TheVariants.{Step}
 use Rattle.flash_dev.specs.declared.hurt.Hurt.{Hurt}
 use Rattle.flash_dev.specs.declared.hurt.Hurt.TheVariants.{Cut}
 use Rattle.ec_model.specs.HostCalls.{on_after}
-use Rattle.ec_model.specs.Upset.{is_cut_entry}
-use Rattle.ec_wire.specs.Calls.{WireView, RunsAlong, RoseBy, is_failed_entry}
+use Rattle.ec_model.specs.Upset.{is_cut_entry, event_byte}
+use Rattle.flash_dev.specs.Told.{Changes}
+use Rattle.ec_model.specs.Table.{Table}
+use Rattle.ec_model.specs.Bench.{BenchCall}
+use Rattle.ec_model.specs.Played.{PlayedAll, PlaysEntry}
+use Rattle.ec_wire.specs.Calls.{WireView, RunsAlong, RoseBy, ArePowerless, bench_of, is_failed_entry}
 
--- These entries were added, whatever they are: the controller's states are joined by a run along them, and each failed
--- and each cut entry raised its count.
+-- calls on the bench, whatever they are, added the entries
+pub record IsPlayedBy (added : List Entry) (old new : WireView) (before after : Table) : Type 0 where
+  pub calls : List BenchCall
+  pub played : PlayedAll (bench_of old before) calls added (bench_of new after)
+
+-- These entries were added, whatever they are: the controller's states are joined by a run along them, calls on the bench
+-- are played along them, and each failed and each cut entry raised its count.
 pub record Extends (added : List Entry) (old new : WireView) : Type 0 where
   pub entries : new.entries ≡ old.entries ++ added
   pub on : new.on ≡ on_after added old.on
   pub bus : new.bus ≡ old.bus
-  pub armed : IsFalse old.armed → IsFalse new.armed
+  pub armed : old.armed ≡ [] → new.armed ≡ []
+  pub powerless : ArePowerless old.on added
   pub faults : RoseBy (count_by is_failed_entry added) old.faults new.faults
   pub cuts : RoseBy (count_by is_cut_entry added) old.cuts new.cuts
   pub run : RunsAlong added old.table new.table
+  pub played : Changes (IsPlayedBy added old new) old.table new.table
 
 -- one entry was added, which took one off the room
 pub record Adds (entry : Entry) (old new : WireView) : Type 0 where
@@ -47,3 +58,8 @@ pub record Happens (happened : WorldEvent) (old new : WireView) : Type 0 where
   pub hurt : Hurt
   pub alive : hurt ≡ Cut → IsTrue old.on
   pub adds : Adds (Step event 0 0 0 hurt) old new
+
+-- an event is an entry of the bench behind a wire, with what the host sent and saw
+abbrev pub EntryTold : Event → ℕ → Hurt → WireView → WireView → Option Table → Option Table → Type 0
+EntryTold happened answer hurt old new =
+    Changes (λ before after. PlaysEntry (bench_of old before) happened answer (event_byte happened) answer hurt (bench_of new after))

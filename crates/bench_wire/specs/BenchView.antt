@@ -1,5 +1,5 @@
 -- What a contract sees of a bench.
-use Rattle.std.specs.Prelude.{ℕ, false, List}
+use Rattle.std.specs.Prelude.{ℕ, List, []}
 use Rattle.ec_types.specs.declared.bus.BusKind.{BusKind}
 use Rattle.ec_model.specs.declared.event.Entry.{Entry}
 use Rattle.ec_core.specs.View.{EcView}
@@ -11,7 +11,7 @@ pub record BenchView : Type 0 where
   pub spare : ℕ
   pub controller : EcView
 
--- a bench as its host sees it: nothing of the world is armed
+-- a bench as its host sees it: no event of the world is armed, and a cut is where its flash says so
 abbrev pub wire_view : BusKind → BenchView → WireView
 wire_view bus bench =
     record {
@@ -20,7 +20,9 @@ wire_view bus bench =
       on = bench.controller.on;
       bus = bus;
       table = bench.controller.table;
-      armed = false;
+      armed = [];
+      cut = bench.controller.device.armed;
       faults = bench.controller.device.faults;
       cuts = bench.controller.device.cuts;
+      own_cuts = bench.controller.device.own_cuts;
     }

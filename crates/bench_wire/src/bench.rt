@@ -40,7 +40,7 @@ impl<B: Bus + Drop, F: FlashDev> Bench<B, F> {
     ghost use Rattle.ec_wire.specs.Calls.{Agrees};
     ghost use Rattle.ec_core.specs.Held.{IsSilent};
     ghost use Rattle.bench_wire.specs.BenchView.{wire_view};
-    ghost use Rattle.bench_wire.specs.Adding.{Adds, Happens};
+    ghost use Rattle.bench_wire.specs.Adding.{Adds, EntryTold, Happens};
     ghost use Rattle.ec_model.specs.declared.event.Entry.TheVariants.{Step as StepEntry, Mark as MarkEntry};
 
     /// The controller, with an empty journal that has no room yet.
@@ -60,6 +60,8 @@ impl<B: Bus + Drop, F: FlashDev> Bench<B, F> {
     pub(crate) fn step(&mut self, event: Event) -> u8
         requires { 1 ≤ self.old.spare }
         ensures adds { Adds (StepEntry event result (event_byte event) result self.new.controller.hurt) (wire_view B.bus self.old) (wire_view B.bus self.new) }
+        ensures plays { EntryTold event result self.new.controller.hurt (wire_view B.bus self.old) (wire_view B.bus self.new)
+            self.old.controller.table self.new.controller.table }
         ensures silent { IsSilent event result }
         ensures alive { self.new.controller.hurt ≡ Cut → IsTrue self.old.controller.on }
         ensures agrees { IfSome self.new.controller.table (Agrees B.bus self.new.controller.on) }

@@ -1,5 +1,5 @@
 -- Calls of a wire, one after the other.
-use Rattle.std.proofs.Common.{◌≡◌, refl, sym, ap, ◌∙◌, subst, ℕ, ◌+◌, Bool, true, false, ◌&&◌, ◌||◌, List, [], ◌∷◌, ◌++◌, length, length-append, append_assoc, append-nil, arith}
+use Rattle.std.proofs.Common.{◌≡◌, refl, sym, ap, ◌∙◌, subst, ℕ, ◌+◌, Bool, true, false, ◌&&◌, ◌||◌, List, [], ◌∷◌, ◌++◌, length, length-append, append_assoc, append-nil, arith, Option, Some, None}
 use Rattle.std.specs.Prelude.{count_by}
 use Rattle.std.specs.List.{list_all}
 use Rattle.std.proofs.lemmas.List.Folds.{list_all-append, list_any-append}
@@ -9,8 +9,12 @@ use Rattle.ec_model.specs.declared.event.Event.TheVariants.{Access as AccessEven
 use Rattle.ec_model.specs.declared.event.Entry.{Entry}
 use Rattle.ec_model.specs.declared.event.Entry.TheVariants.{Step, Mark}
 use Rattle.ec_model.specs.Upset.{access_byte, is_world, is_changed, is_cut_entry}
-use Rattle.ec_model.specs.HostCalls.{HostCall, Did, Waited, with_byte, calls_of, on_after}
-use Rattle.ec_wire.specs.Calls.{WireView, RoseBy, KeepsQuiet, Grows, AccessAdds, WaitAdds, Made, is_wire_step, is_failed_entry}
+use Rattle.ec_model.specs.HostCalls.{HostCall, Did, Waited, with_byte, calls_of, on_after, on_after_entry}
+use Rattle.flash_dev.specs.Told.{Changes}
+use Rattle.ec_model.specs.Table.{Table}
+use Rattle.ec_model.specs.Bench.{Armed}
+use Rattle.ec_model.proofs.PlayRuns.{calls-append}
+use Rattle.ec_wire.specs.Calls.{WireView, RoseBy, KeepsQuiet, IsPlayed, ArePowerless, bench_of, is_host_call, Grows, AccessAdds, WaitAdds, Made, is_wire_step, is_failed_entry}
 use Rattle.ec_wire.proofs.Appends.{calls_of-append, are_calls-append, runs-append, runs-nil, on_after-append, count_by-append}
 
 -- two tests that hold
@@ -35,13 +39,35 @@ counts-then test added more before middle now once again =
     subst (λ (amount : ℕ). RoseBy amount before now) (sym (count_by-append test added more)) (rose-then _ _ before middle now once again)
 
 -- it stayed quiet twice
-quiet-then : (added more : List Entry) (middle new : Bool) → KeepsQuiet added middle → KeepsQuiet more new → KeepsQuiet (added ++ more) new
+quiet-then : (added more : List Entry) (middle new : List Armed) → KeepsQuiet added middle → KeepsQuiet more new → KeepsQuiet (added ++ more) new
 quiet-then added more middle new first second =
     record {
       disarmed = second.disarmed;
       no_event = list_any-append is_world added more ∙ both-false _ _ first.no_event second.no_event;
       no_byte = list_any-append is_changed added more ∙ both-false _ _ first.no_byte second.no_byte;
     }
+
+-- answers without power, behind others
+pub powerless-then : (on : Bool) (added more : List Entry) → ArePowerless on added → ArePowerless (on_after added on) more → ArePowerless on (added ++ more)
+powerless-then on [] more first second = second
+powerless-then on (entry ∷ added) more first second = (first.0, powerless-then (on_after_entry entry on) added more first.1 second)
+
+-- calls on the bench, behind others
+played-then : (added more : List Entry) (old middle new : WireView) (o p q : Option Table) → Changes (IsPlayed added old middle) o p → Changes (IsPlayed more middle new) p q → Changes (IsPlayed (added ++ more) old new) o q
+played-then added more old middle new None None None first second = tt
+played-then added more old middle new None None (Some c) first second = second
+played-then added more old middle new None (Some b) q first second = absurd first
+played-then added more old middle new (Some a) None q first second = absurd first
+played-then added more old middle new (Some a) (Some b) None first second = second
+played-then added more old middle new (Some a) (Some b) (Some c) first second = record {
+  calls = first.calls ++ second.calls;
+  hosts = list_all-append is_host_call first.calls second.calls ∙ both-true _ _ first.hosts second.hosts;
+  played = calls-append (bench_of old a) (bench_of middle b) (bench_of new c) first.calls second.calls added more first.played second.played;
+}
+
+played-nil : (view : WireView) (o : Option Table) → Changes (IsPlayed [] view view) o o
+played-nil view None = tt
+played-nil view (Some table) = record { calls = []; hosts = refl; played = (refl, refl) }
 
 -- entries behind others
 pub grows-then : (added more : List Entry) (old middle new : WireView) → Grows added old middle → Grows more middle new → Grows (added ++ more) old new
@@ -55,9 +81,11 @@ grows-then added more old middle new first second =
       calls = are_calls-append added more first.calls second.calls;
       steps = list_all-append is_wire_step added more ∙ both-true _ _ first.steps second.steps;
       quiet = λ off. let quiet = first.quiet off in quiet-then added more middle.armed new.armed quiet (second.quiet quiet.disarmed);
+      powerless = powerless-then old.on added more first.powerless (subst (λ (on : Bool). ArePowerless on more) first.on second.powerless);
       faults = counts-then is_failed_entry added more old.faults middle.faults new.faults first.faults second.faults;
       cuts = counts-then is_cut_entry added more old.cuts middle.cuts new.cuts first.cuts second.cuts;
       run = runs-append added more old.table middle.table new.table first.run second.run;
+      played = played-then added more old middle new old.table middle.table new.table first.played second.played;
     }
 
 -- no entry
@@ -71,9 +99,11 @@ grows-nil view =
       calls = refl;
       steps = refl;
       quiet = λ off. record { disarmed = off; no_event = refl; no_byte = refl };
+      powerless = tt;
       faults = record { later = omega arith; risen = omega arith };
       cuts = record { later = omega arith; risen = omega arith };
       run = runs-nil view.table;
+      played = played-nil view view.table;
     }
 
 -- an access with another byte, and its own again

@@ -1,31 +1,36 @@
 -- What a wire shows, and what its calls add to its entries and do to the rest.
-use Rattle.std.specs.Prelude.{◌≡◌, ℕ, ◌+◌, ◌≤◌, min, Bool, true, false, ◌&&◌, ◌==◌, IsTrue, IsFalse, List, [], ◌∷◌, ◌++◌, length, count_by, Option, IfSome}
+use Rattle.std.specs.Prelude.{◌≡◌, ℕ, ◌+◌, ◌≤◌, min, Bool, true, false, ◌&&◌, ◌==◌, IsTrue, IsFalse, List, [], ◌∷◌, ◌++◌, length, count_by, Option, IfSome, ⊤}
 use Rattle.std.specs.List.{list_all, list_any}
 use Rattle.flash_dev.specs.Counts.{last_count}
 use Rattle.flash_dev.specs.Told.{Changes}
 use Rattle.ec_types.specs.declared.bus.BusKind.{BusKind}
 use Rattle.ec_model.specs.declared.event.Access.{Access}
-use Rattle.ec_model.specs.HostCalls.{HostCall, with_byte, calls_of, are_calls, on_after}
+use Rattle.ec_model.specs.HostCalls.{HostCall, with_byte, calls_of, are_calls, on_after, on_after_entry}
 use Rattle.ec_model.specs.declared.event.Event.TheVariants.{Access as AccessEvent, Tick}
 use Rattle.ec_model.specs.declared.event.Entry.{Entry}
 use Rattle.ec_model.specs.declared.event.Entry.TheVariants.{Step, Mark}
 use Rattle.flash_dev.specs.declared.hurt.Hurt.{Hurt}
-use Rattle.flash_dev.specs.declared.hurt.Hurt.TheVariants.{Failed}
+use Rattle.flash_dev.specs.declared.hurt.Hurt.TheVariants.{Whole, Failed, Cut}
+use Rattle.ec_model.specs.Bench.{Armed, ArmedCut, Bench, BenchCall, Accesses, Waits}
+use Rattle.ec_model.specs.Played.{PlayedAll}
+use Rattle.ec_model.specs.Work.{lost_answer}
 use Rattle.ec_model.specs.Table.{Table, Valid, is_on}
 use Rattle.ec_model.specs.Run.{IsRun}
 use Rattle.ec_model.specs.Upset.{access_byte, is_world, is_changed, is_cut_entry}
 
--- a wire: what happened so far, for how many entries there is room, whether the controller is on, which bus it is, whether
--- an event or a changed byte of the world is armed, what the flash counted of faults and of cuts, and the controller's
--- state where the flash tells its bytes
+-- a wire: what happened so far, for how many entries there is room, whether the controller is on, which bus it is, the
+-- events and changed bytes of the world that are armed, the cut that is armed for the flash, what the flash counted of
+-- faults, of cuts, and of cuts of its own, and the controller's state where the flash tells its bytes
 pub record WireView : Type 0 where
   pub entries : List Entry
   pub spare : ℕ
   pub on : Bool
   pub bus : BusKind
-  pub armed : Bool
+  pub armed : List Armed
+  pub cut : Option ArmedCut
   pub faults : ℕ
   pub cuts : ℕ
+  pub own_cuts : ℕ
   pub table : Option Table
 
 -- a table that is told agrees with what is always told
@@ -58,8 +63,8 @@ is_wire_step (Step other answer meant seen hurt) = (answer == 0) && (meant == 0)
 is_wire_step (Mark line) = false
 
 -- nothing of the world is armed behind the entries, and none of them is of it
-pub record KeepsQuiet (added : List Entry) (armed : Bool) : Type 0 where
-  pub disarmed : IsFalse armed
+pub record KeepsQuiet (added : List Entry) (armed : List Armed) : Type 0 where
+  pub disarmed : armed ≡ []
   pub no_event : IsFalse (list_any is_world added)
   pub no_byte : IsFalse (list_any is_changed added)
 
@@ -68,9 +73,39 @@ pub record RoseBy (amount before now : ℕ) : Type 0 where
   pub later : before ≤ now
   pub risen : min (before + amount) last_count ≤ now
 
+-- the bench of a wire whose table is told
+abbrev pub bench_of : WireView → Table → Bench
+bench_of view table =
+    record { table = table; armed = view.armed; cut = view.cut; faults = view.faults; cuts = view.own_cuts }
+
+-- whether a call on a bench is the host's
+abbrev pub is_host_call : BenchCall → Bool
+is_host_call (Accesses access) = true
+is_host_call Waits = true
+is_host_call other = false
+
+-- the host's calls on the bench, one after the other, added the entries
+pub record IsPlayed (added : List Entry) (old new : WireView) (before after : Table) : Type 0 where
+  pub calls : List BenchCall
+  pub hosts : IsTrue (list_all is_host_call calls)
+  pub played : PlayedAll (bench_of old before) calls added (bench_of new after)
+
+-- a controller that is off, or that lost its power in an entry, answers what no power answers: 0xFF to an access
+abbrev pub IsPowerless : Bool → Entry → Type 0
+IsPowerless on (Mark line) = ⊤
+IsPowerless false (Step event answer meant seen hurt) = answer ≡ lost_answer event
+IsPowerless true (Step event answer meant seen Cut) = answer ≡ lost_answer event
+IsPowerless true (Step event answer meant seen Whole) = ⊤
+IsPowerless true (Step event answer meant seen Failed) = ⊤
+
+-- the same of entries, by whether the controller is on before each
+abbrev pub ArePowerless : Bool → List Entry → Type 0
+ArePowerless on [] = ⊤
+ArePowerless on (entry ∷ entries) = IsPowerless on entry × ArePowerless (on_after_entry entry on) entries
+
 -- Calls added these entries. Each call took one off the room. Where nothing of the world was armed, nothing of it came.
 -- Each failed entry raised the count of faults, and each cut entry that of cuts, which an armed cut that falls raises, too.
--- The tables are joined by a run.
+-- The tables are joined by a run, and the calls are played on the bench behind the wire.
 pub record Grows (added : List Entry) (old new : WireView) : Type 0 where
   pub entries : new.entries ≡ old.entries ++ added
   pub room : new.spare + length (calls_of added) ≡ old.spare
@@ -78,10 +113,12 @@ pub record Grows (added : List Entry) (old new : WireView) : Type 0 where
   pub bus : new.bus ≡ old.bus
   pub calls : IsTrue (are_calls added)
   pub steps : IsTrue (list_all is_wire_step added)
-  pub quiet : IsFalse old.armed → KeepsQuiet added new.armed
+  pub quiet : old.armed ≡ [] → KeepsQuiet added new.armed
+  pub powerless : ArePowerless old.on added
   pub faults : RoseBy (count_by is_failed_entry added) old.faults new.faults
   pub cuts : RoseBy (count_by is_cut_entry added) old.cuts new.cuts
   pub run : RunsAlong added old.table new.table
+  pub played : Changes (IsPlayed added old new) old.table new.table
 
 -- an access added the world's events that were due, and then its own entry
 pub record AccessAdds (access : Access) (seen : ℕ) (old new : WireView) : Type 0 where

@@ -1,5 +1,5 @@
 -- Calls of a wire that nothing disturbs.
-use Rattle.std.specs.Prelude.{IsFalse}
+use Rattle.std.specs.Prelude.{◌≡◌, []}
 use Rattle.flash_dev.specs.Counts.{Rose}
 use Rattle.ec_model.specs.declared.event.Event.TheVariants.{Access as AccessEvent, Tick}
 use Rattle.ec_model.specs.declared.event.Entry.{Entry}
@@ -11,7 +11,7 @@ use Rattle.ec_wire.specs.Calls.{WireView}
 
 -- nothing of the world was armed, and the flash counted neither a fault nor a cut
 pub record StaysCalm (old new : WireView) : Type 0 where
-  pub disarmed : IsFalse old.armed
+  pub disarmed : old.armed ≡ []
   pub no_fault : ¬ Rose old.faults new.faults
   pub no_cut : ¬ Rose old.cuts new.cuts
 
