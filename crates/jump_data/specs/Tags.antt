@@ -31,7 +31,7 @@ abbrev pub tags_bytes : List Tag → List ℕ
 tags_bytes [] = []
 tags_bytes (tag ∷ behind) = tag_bytes tag ++ tags_bytes behind
 
--- what stands before the tags: the magic number, the version, the flags and the size of the tags; in version 3 its own size, too
+-- what stands before the tags: the magic number, the version, the flags, the size of the tags, and in version 3 its own size
 abbrev pub front : TagLayout → ℕ → ℕ → List ℕ
 front V2 flags total = u32_bytes magic ++ u32_bytes 2 ++ u32_bytes flags ++ u32_bytes total
 front V3 flags total = u32_bytes magic ++ u32_bytes 3 ++ u32_bytes flags ++ u32_bytes total ++ u32_bytes 20

@@ -119,7 +119,8 @@ fn put_hash(out: &mut ArrayVec<u8, 256>, hash: Option<KeptHash>)
 // Appends the tag of the saved status.
 fn put_saved(out: &mut ArrayVec<u8, 256>, saved: u16)
     requires { length out.old.items ≤ 200 }
-    ensures spelled { out.new.items ≡ out.old.items ++ tag_bytes (record { number = 0x5253; content = u16_bytes saved }) }
+    ensures spelled { out.new.items ≡ out.old.items ++
+        tag_bytes (record { number = 0x5253; content = u16_bytes saved }) }
     ensures most { length out.new.items ≤ length out.old.items + 8 }
 {
     let mut content = [0; 2];

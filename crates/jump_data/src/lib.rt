@@ -2,7 +2,7 @@
 //! one that starts reads them.
 //!
 //! Below are the small types of `ec_types`; above are to be the controller's jumps. `encode` gives the one spelling of
-//! what is kept, `decode` accepts exactly the spellings, so that what was encoded decodes to itself, and `tag` finds the
+//! what is kept, and `decode` accepts exactly the spellings, so that what was encoded decodes to itself; `tag` finds the
 //! first tag of a number in jump data with any tags.
 #![tactic(auto)]
 
@@ -13,3 +13,6 @@ mod tags;
 
 pub use kept::{JumpData, TagLayout};
 pub use tags::tag;
+
+#[cfg(test)]
+mod tests;

@@ -11,8 +11,8 @@ use arrayvec::ArrayVec;
 use byteorder::{ByteOrder, LittleEndian};
 
 /// The place and the length of the content of the first tag of a number, in jump data of version 2 or 3 with any tags.
-/// None exactly where there is no such tag, or the bytes are no such data: they have more than 256 bytes, another front,
-/// or what follows it is no row of tags.
+/// None exactly where there is no such tag, or the bytes are no such data: more than 256 bytes, another front, or no row
+/// of tags behind it.
 pub fn tag(bytes: &[u8], number: u16) -> Option<(usize, usize)>
     ensures found { (layout : TagLayout) (flags : ℕ) (tags : List Tag) → HasTags bytes.now layout flags tags →
         result ≡ first_place number (front_size layout) tags }
@@ -28,7 +28,8 @@ pub fn tag(bytes: &[u8], number: u16) -> Option<(usize, usize)>
 pub fn layout_of(bytes: &[u8]) -> Option<TagLayout>
     ensures found { (layout : TagLayout) (flags : ℕ) (behind : List ℕ) → HasFront bytes.now layout flags behind →
         result ≡ Some layout }
-    ensures formed { IfSome result (λ layout. (flags : ℕ) × (behind : List ℕ) × HasFront bytes.now layout flags behind) }
+    ensures formed { IfSome result (λ layout.
+        (flags : ℕ) × (behind : List ℕ) × HasFront bytes.now layout flags behind) }
 {
     if bytes.len() > 256 {
         return None;
@@ -78,11 +79,12 @@ pub fn front_size(layout: TagLayout) -> usize
     }
 }
 
-// The place and the length of the first tag of a number, where the first of some tags stands at a place; None exactly where
-// the bytes are no tags.
+// The place and the length of the content of the first tag of a number, where the first of some tags stands at a place;
+// None exactly where the bytes are no tags.
 pub fn find(tags: &[u8], at: usize, number: u16) -> Option<Option<(usize, usize)>>
     requires { at + length tags.now ≤ 256 }
-    ensures found { (each : List Tag) → AreTags each → tags.now ≡ tags_bytes each → result ≡ Some (first_place number at each) }
+    ensures found { (each : List Tag) → AreTags each → tags.now ≡ tags_bytes each →
+        result ≡ Some (first_place number at each) }
     ensures well_formed { IsSome result → (each : List Tag) × AreTags each × (tags.now ≡ tags_bytes each) }
 {
     if tags.is_empty() {
@@ -98,7 +100,8 @@ pub fn find(tags: &[u8], at: usize, number: u16) -> Option<Option<(usize, usize)
 
 // The tag at the front: its number, its content, and the bytes behind it; None exactly where there is none.
 pub fn split_tag(tags: &[u8]) -> Option<(u16, &[u8], &[u8])>
-    ensures spelled { IfSome result (λ x. tags.now ≡ tag_bytes (record { number = x.0; content = x.1.now }) ++ x.2.now) }
+    ensures spelled { IfSome result (λ x.
+        tags.now ≡ tag_bytes (record { number = x.0; content = x.1.now }) ++ x.2.now) }
     ensures is { IfSome result (λ x. IsTag (record { number = x.0; content = x.1.now })) }
     ensures accepted { (tag : Tag) (rest : List ℕ) → IsTag tag → tags.now ≡ tag_bytes tag ++ rest → IsSome result }
 {
@@ -116,7 +119,8 @@ fn split_content(bytes: &[u8], size: usize) -> Option<(&[u8], &[u8])>
     requires { size < 256 }
     ensures spelled { IfSome result (λ x. bytes.now ≡ x.0.now ++ filling size ++ x.1.now) }
     ensures sized { IfSome result (λ x. length x.0.now ≡ size) }
-    ensures accepted { (content rest : List ℕ) → length content ≡ size → bytes.now ≡ content ++ filling size ++ rest → IsSome result }
+    ensures accepted { (content rest : List ℕ) → length content ≡ size → bytes.now ≡ content ++ filling size ++ rest →
+        IsSome result }
 {
     let zeros = (4 - size % 4) % 4;
     if bytes.len() < size + zeros {
