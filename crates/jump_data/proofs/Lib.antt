@@ -1,0 +1,5 @@
+mod Cutting
+mod Fronts
+mod Reading
+mod Short
+mod Walking

@@ -1,0 +1,98 @@
+// Jump data with its bytes, laid out by hand, and tags of other controllers.
+use super::*;
+use arrayvec::ArrayVec;
+use ec_types::KeptHash;
+use std::process::Abort;
+
+const OLD: JumpData = JumpData::Old { flags: 0x402 };
+
+const OLD_BYTES: [u8; 12] = [
+    0x4A, 0x75, 0x6D, 0x70, 0x01, 0x00, 0x00, 0x00, 0x02, 0x04, 0x00, 0x00,
+];
+
+const PLAIN: JumpData = JumpData::Tagged {
+    layout: TagLayout::V2,
+    flags: 0x408,
+    protect: [0, 0, 1, 0],
+    hash: None,
+    saved: 0x1234,
+};
+
+const PLAIN_BYTES: [u8; 32] = [
+    0x4A, 0x75, 0x6D, 0x70, 0x02, 0x00, 0x00, 0x00, 0x08, 0x04, 0x00, 0x00, 0x10, 0x00, 0x00, 0x00,
+    0x57, 0x50, 0x04, 0x01, 0x00, 0x00, 0x01, 0x00, 0x53, 0x52, 0x02, 0x01, 0x34, 0x12, 0x00, 0x00,
+];
+
+const HASHED: JumpData = JumpData::Tagged {
+    layout: TagLayout::V3,
+    flags: 0x408,
+    protect: [1, 1, 0, 1],
+    hash: Some(KeptHash {
+        at: 0x8000,
+        size: 0x8000,
+        digest: [0xD1; 32],
+    }),
+    saved: 9,
+};
+
+const HASHED_BYTES: [u8; 80] = [
+    0x4A, 0x75, 0x6D, 0x70, 0x03, 0x00, 0x00, 0x00, 0x08, 0x04, 0x00, 0x00, 0x3C, 0x00, 0x00, 0x00,
+    0x14, 0x00, 0x00, 0x00, 0x57, 0x50, 0x04, 0x01, 0x01, 0x01, 0x00, 0x01, 0x48, 0x48, 0x28, 0x01,
+    0x00, 0x80, 0x00, 0x00, 0x00, 0x80, 0x00, 0x00, 0xD1, 0xD1, 0xD1, 0xD1, 0xD1, 0xD1, 0xD1, 0xD1,
+    0xD1, 0xD1, 0xD1, 0xD1, 0xD1, 0xD1, 0xD1, 0xD1, 0xD1, 0xD1, 0xD1, 0xD1, 0xD1, 0xD1, 0xD1, 0xD1,
+    0xD1, 0xD1, 0xD1, 0xD1, 0xD1, 0xD1, 0xD1, 0xD1, 0x53, 0x52, 0x02, 0x01, 0x09, 0x00, 0x00, 0x00,
+];
+
+// Version 3 with an empty tag, a tag of one byte, and another of its number.
+const FOREIGN_BYTES: [u8; 40] = [
+    0x4A, 0x75, 0x6D, 0x70, 0x03, 0x00, 0x00, 0x00, 0x00, 0x00, 0x00, 0x00, 0x14, 0x00, 0x00, 0x00,
+    0x14, 0x00, 0x00, 0x00, 0xCD, 0xAB, 0x00, 0x01, 0x07, 0x00, 0x01, 0x01, 0x55, 0x00, 0x00, 0x00,
+    0x07, 0x00, 0x02, 0x01, 0x66, 0x77, 0x00, 0x00,
+];
+
+fn spells<R: Abort>(rt: &R, jump: JumpData, bytes: &[u8]) {
+    assert_eq!(rt; JumpData::decode(bytes), Some(jump));
+}
+
+#[test]
+fn each_version_is_spelled_so(rt: HostRuntime) {
+    let mut out = ArrayVec::new();
+    OLD.encode(&mut out);
+    assert_eq!(rt; out.as_slice(), OLD_BYTES.as_slice());
+    let mut out = ArrayVec::new();
+    PLAIN.encode(&mut out);
+    assert_eq!(rt; out.as_slice(), PLAIN_BYTES.as_slice());
+    let mut out = ArrayVec::new();
+    HASHED.encode(&mut out);
+    assert_eq!(rt; out.as_slice(), HASHED_BYTES.as_slice());
+}
+
+#[test]
+fn each_spelling_is_read(rt: HostRuntime) {
+    spells(&rt, OLD, &OLD_BYTES);
+    spells(&rt, PLAIN, &PLAIN_BYTES);
+    spells(&rt, HASHED, &HASHED_BYTES);
+}
+
+#[test]
+fn other_bytes_are_refused(rt: HostRuntime) {
+    assert_eq!(rt; JumpData::decode(&[]), None);
+    assert_eq!(rt; JumpData::decode(&PLAIN_BYTES[..31]), None);
+    assert_eq!(rt; JumpData::decode(&FOREIGN_BYTES), None);
+    for (place, byte) in [(0, 0x4B), (4, 4), (12, 15), (16, 0x58), (22, 2), (27, 2), (30, 1)] {
+        let mut bytes = PLAIN_BYTES;
+        bytes[place] = byte;
+        assert_eq!(rt; JumpData::decode(&bytes), None);
+    }
+}
+
+#[test]
+fn tags_are_found(rt: HostRuntime) {
+    assert_eq!(rt; tag(&HASHED_BYTES, 0x4848), Some((32, 40)));
+    assert_eq!(rt; tag(&PLAIN_BYTES, 0x5253), Some((28, 2)));
+    assert_eq!(rt; tag(&PLAIN_BYTES, 0x4848), None);
+    assert_eq!(rt; tag(&OLD_BYTES, 0x5057), None);
+    assert_eq!(rt; tag(&FOREIGN_BYTES, 0xABCD), Some((24, 0)));
+    assert_eq!(rt; tag(&FOREIGN_BYTES, 7), Some((28, 1)));
+    assert_eq!(rt; tag(&FOREIGN_BYTES[..39], 7), None);
+}
