@@ -93,7 +93,10 @@ fn source_passes_bytes_on(rt: HostRuntime) {
         assert_eq!(rt; first(&mut source), want);
     }
     let mut broken = StdSource::new(Broken);
+    assert!(rt; broken.error().is_none());
     assert_eq!(rt; first(&mut broken), Err(Failed));
+    let kind = broken.error().map(Error::kind);
+    assert_eq!(rt; kind, Some(ErrorKind::BrokenPipe));
 }
 
 #[test]
@@ -111,6 +114,8 @@ fn a_write_of_nothing_is_a_fault(rt: HostRuntime) {
     let mut sink = StdSink::new(full.as_mut_slice());
     assert_eq!(rt; sink.put(b"abc"), Ok(2));
     assert_eq!(rt; sink.put(b"c"), Err(Failed));
+    let kind = sink.error().map(Error::kind);
+    assert_eq!(rt; kind, Some(ErrorKind::WriteZero));
 }
 
 #[test]

@@ -18,12 +18,17 @@ use Rattle.raw_lines.specs.Raw.{Raw}
 use Rattle.raw_lines.specs.Making.{MakesRaw}
 use Rattle.ecbench.specs.declared.run.Exit.{Exit}
 use Rattle.ecbench.specs.declared.run.Exit.TheVariants.{Done, BadLine, SinkFault, NoMemory, ScriptTooLong}
+use Rattle.line_reader.specs.Finding.{ReaderView}
 use Rattle.line_reader.specs.declared.reader.Next.{Next}
 use Rattle.line_reader.specs.declared.reader.Next.TheVariants.{Line, Last, End, TooLong, Full}
 use Rattle.ec_types.specs.declared.why.Why.TheVariants as why
 use Rattle.ecbench.specs.Lines.{Nothing, Asks, Happens, Makes, deed_of, IsFaulty}
 use Rattle.ecbench.specs.Scripts.{PlaysUpTo}
 use Rattle.ecbench.specs.Endings.{power_on, seen}
+
+-- a reader that has read nothing yet
+abbrev pub fresh_reader : ReaderView
+fresh_reader = record { ahead = []; given = 0; line = [] }
 
 -- power came
 pub record PowersOn (old new : WireView) : Type 0 where

@@ -5,6 +5,7 @@ mod marking;
 mod raw;
 mod run;
 mod serving;
+mod telling;
 #[cfg(test)]
 mod tests;
 mod word;
@@ -13,9 +14,11 @@ use bench_io::{FileFlash, StdSink, StdSource};
 use run::{Exit, run};
 use std::alloc::Global;
 use std::env::{self, Args};
+use std::fmt::Display;
 use std::fs::{self, File};
 use std::io;
 use std::process::ExitCode;
+use telling::{FaultyLine, FaultyWords, fault_of};
 use word::Word;
 
 /// The exit status where the flash file cannot be opened.
@@ -25,12 +28,15 @@ fn main(rt: HostRuntime) -> ExitCode {
     let words = match env::args(&rt).and_then(|args| read_words(rt.alloc(), args)) {
         Ok(words) => words,
         Err(error) if error.kind() == io::ErrorKind::InvalidData => {
-            return told(&rt, Exit::BadWords);
+            return told_usage(&rt, &"a word is not UTF-8");
         }
         Err(_) => return told(&rt, Exit::NoMemory),
     };
+    let faulty = FaultyWords {
+        words: words.as_slice(),
+    };
     let Some(path) = words.first().and_then(Word::flash_path) else {
-        return told(&rt, Exit::BadWords);
+        return told_usage(&rt, &faulty);
     };
     let _held = hold_streams(&rt);
     let flash = match open_flash(&rt, path) {
@@ -47,7 +53,11 @@ fn main(rt: HostRuntime) -> ExitCode {
     let mut sink = StdSink::new(io::writer(&rt));
     let ended = run(rt.alloc(), words.as_slice(), flash, &mut source, &mut sink);
     match ended.exit {
+        Exit::BadWords => told_usage(&rt, &faulty),
         Exit::BadFlash => told_with_size(&rt, path, Exit::BadFlash),
+        Exit::BadLine { line, .. } => told_line(&rt, ended.exit, line, ended.reader.line()),
+        Exit::SourceFault => told_with_cause(&rt, Exit::SourceFault, source.error()),
+        Exit::SinkFault => told_with_cause(&rt, Exit::SinkFault, sink.error()),
         exit => told(&rt, exit),
     }
 }
@@ -86,11 +96,40 @@ fn told(rt: &HostRuntime, exit: Exit) -> ExitCode {
     ExitCode::from(exit.status())
 }
 
+// The status of words that are not the command's: what is wrong with them is told, and the usage.
+fn told_usage<D: Display>(rt: &HostRuntime, wrong: &D) -> ExitCode {
+    let _ = eprintln!(rt; "ecbench: {wrong}\nusage: ecbench FLASH < SCRIPT");
+    ExitCode::from(Exit::BadWords.status())
+}
+
 // The status of an exit for which the flash file's size is the cause: its path and size are told with it.
 fn told_with_size(rt: &HostRuntime, path: &str, exit: Exit) -> ExitCode {
     let Ok(metadata) = fs::metadata(rt, path) else {
         return told(rt, exit);
     };
     let _ = eprintln!(rt; "ecbench: {path} has {} bytes: {exit}", metadata.len());
+    ExitCode::from(exit.status())
+}
+
+// The status of a line that is outside the grammar: where it is at fault is told, and what was expected there.
+fn told_line(rt: &HostRuntime, exit: Exit, number: u32, line: &[u8]) -> ExitCode {
+    let Some(fault) = fault_of(line) else {
+        return told(rt, exit);
+    };
+    let faulty = FaultyLine {
+        number,
+        line,
+        fault,
+    };
+    let _ = eprintln!(rt; "ecbench: {faulty}");
+    ExitCode::from(exit.status())
+}
+
+// The status of an exit with an error as its cause, which is told with it.
+fn told_with_cause(rt: &HostRuntime, exit: Exit, cause: Option<&io::Error>) -> ExitCode {
+    let Some(error) = cause else {
+        return told(rt, exit);
+    };
+    let _ = eprintln!(rt; "ecbench: {exit}: {error}");
     ExitCode::from(exit.status())
 }

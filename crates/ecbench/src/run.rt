@@ -17,6 +17,7 @@ use ec_types::Why;
 use ec_wire::Journal;
 use ectool_lines::ToolErr;
 use flash_dev::{FlashDev, Geometry};
+use line_reader::LineReader;
 use std::alloc::Global;
 use thiserror::Error;
 
@@ -27,7 +28,7 @@ pub enum Exit {
     #[error("done")]
     Done,
     /// The words are not the command's.
-    #[error("the words are not the command's\nusage: ecbench FLASH < SCRIPT")]
+    #[error("the words are not the command's")]
     BadWords,
     /// The flash has none of the sizes that a controller's flash may have.
     #[error("the flash has no size of 65536 bytes times 1, 2, 4, 8, 16, 32 or 64")]
@@ -78,12 +79,14 @@ impl From<ToolErr> for Exit {
     }
 }
 
-/// How a run ended, with the flash as the controller left it and the journal of all that happened.
+/// How a run ended, with the flash as the controller left it, the journal of all that happened, and the script's reader, which
+/// has the line that was read last.
 #[derive(Drop)]
 pub struct Ended<F> {
     pub exit: Exit,
     pub flash: F,
     pub journal: Journal,
+    pub reader: LineReader,
 }
 
 /// Carries out the script of the source, line by line, on a controller with this flash, which is off at first and has its
@@ -128,12 +131,14 @@ pub fn run<F: FlashDev, S: Source, K: Sink>(
         return refused(alloc, Exit::BadFlash, flash);
     };
     let mut bench: Bench<Lpc, F> = Bench::new(alloc, Ec::new(flash, geometry, true));
-    let exit = drive(&mut bench, source, sink);
+    let mut reader = LineReader::new();
+    let exit = drive(&mut bench, &mut reader, source, sink);
     let (flash, journal) = bench.finish();
     Ended {
         exit,
         flash,
         journal,
+        reader,
     }
 }
 
@@ -147,5 +152,6 @@ fn refused<F>(alloc: Global, exit: Exit, flash: F) -> Ended<F>
         exit,
         flash,
         journal: Journal::new(alloc),
+        reader: LineReader::new(),
     }
 }

@@ -5,7 +5,9 @@ ghost use Rattle.ec_types.specs.declared.bus.BusKind.TheVariants.{Lpc as LpcKind
 ghost use Rattle.bench_wire.specs.BenchView.{wire_view};
 ghost use Rattle.bench_wire.specs.Adding.{is_byte};
 ghost use Rattle.script_lines.specs.Lines.{line_of};
-ghost use Rattle.ecbench.specs.Serving.{Drives, Serves, PowersOn, ServesLine, ServesEvent, exit_at};
+ghost use Rattle.script_words.specs.Faults.{kind_of};
+ghost use Rattle.ecbench.specs.declared.run.Exit.TheVariants.{BadLine};
+ghost use Rattle.ecbench.specs.Serving.{fresh_reader, Drives, Serves, PowersOn, ServesLine, ServesEvent, exit_at};
 
 use crate::marking::begin;
 use crate::raw::{serve_in, serve_out, serve_tick};
@@ -20,6 +22,7 @@ use ectool_lines::{Buffers, parse_checked, run};
 use flash_dev::{Failed, FlashDev};
 use line_reader::{LineReader, Next};
 use script_lines::Line;
+use script_words::Fault;
 
 /// The most lines that a script can have: each but the last takes a byte, of which there are at most 16,777,216.
 const MOST_LINES: u32 = 16_777_217;
@@ -27,10 +30,12 @@ const MOST_LINES: u32 = 16_777_217;
 /// Makes room in the journal for the power-on, and serves the script.
 pub fn drive<F: FlashDev, S: Source, K: Sink>(
     bench: &mut Bench<Lpc, F>,
+    reader: &mut LineReader,
     source: &mut S,
     sink: &mut K,
 ) -> Exit
-    requires { bench.old.controller.on ≡ false }
+    requires off { bench.old.controller.on ≡ false }
+    requires fresh { reader.old ≡ fresh_reader }
     ensures drives { Drives result (wire_view LpcKind bench.old) (wire_view LpcKind bench.new) (S.left source.old) (S.left source.new) (K.written sink.old) (K.written sink.new) }
     ensures source_fault { result ≡ Exit.SourceFault → Rose (S.faults source.old) (S.faults source.new) }
     ensures sink_fault { result ≡ Exit.SinkFault → Rose (K.faults sink.old) (K.faults sink.new) }
@@ -40,7 +45,7 @@ pub fn drive<F: FlashDev, S: Source, K: Sink>(
         Err(_) => return Exit::NoMemory,
     }
     power_on(bench);
-    serve(bench, source, sink)
+    serve(bench, reader, source, sink)
 }
 
 // Powers the controller on.
@@ -55,14 +60,15 @@ fn power_on<F: FlashDev>(bench: &mut Bench<Lpc, F>)
 // Reads the script line by line, and carries out each line before the next one is read.
 fn serve<F: FlashDev, S: Source, K: Sink>(
     bench: &mut Bench<Lpc, F>,
+    reader: &mut LineReader,
     source: &mut S,
     sink: &mut K,
 ) -> Exit
+    requires { reader.old ≡ fresh_reader }
     ensures serves { Serves result (wire_view LpcKind bench.old) (wire_view LpcKind bench.new) (S.left source.old) (S.left source.new) (K.written sink.old) (K.written sink.new) }
     ensures source_fault { result ≡ Exit.SourceFault → Rose (S.faults source.old) (S.faults source.new) }
     ensures sink_fault { result ≡ Exit.SinkFault → Rose (K.faults sink.old) (K.faults sink.new) }
 {
-    let mut reader = LineReader::new();
     let mut buffers = Buffers::new();
     for number in 1..=MOST_LINES {
         let next = match reader.next(source) {
@@ -132,7 +138,17 @@ fn serve_line<F: FlashDev, K: Sink>(
             &mut buffers.text,
             sink,
         ),
-        Err(why) => Err(Exit::BadLine { line: number, why }),
+        Err(fault) => Err(bad_line(number, fault)),
+    }
+}
+
+// The exit for a line with this fault.
+fn bad_line(number: u32, fault: Fault) -> Exit
+    ensures { result ≡ BadLine number (kind_of fault.wanted) }
+{
+    Exit::BadLine {
+        line: number,
+        why: fault.why(),
     }
 }
 
@@ -151,7 +167,7 @@ fn serve_tool<F: FlashDev, K: Sink>(
 {
     let tool = match parse_checked(line) {
         Ok(tool) => tool,
-        Err(why) => return Err(Exit::BadLine { line: number, why }),
+        Err(fault) => return Err(bad_line(number, fault)),
     };
     begin(bench, number)?;
     run(bench, &tool, buffers, sink)?;

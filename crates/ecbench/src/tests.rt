@@ -3,6 +3,7 @@ ghost use Rattle.std.specs.Prelude.{None};
 ghost use Rattle.flash_dev.specs.Told.{untold_is_whole};
 
 use crate::run::{Exit, run};
+use crate::telling::{FaultyLine, FaultyWords, fault_of};
 use crate::word::Word;
 use bench_io::{MemSink, MemSource};
 use ec_model::{Access, Entry, Event};
@@ -361,5 +362,53 @@ fn the_packets_are_on_the_bus(rt: HostRuntime) -> Result<(), Fail> {
     let said = [3, 0x0F, 0, 0, 4, 0, 0, 0, 0xD4, 0xC3, 0xB2, 0xA1];
     assert_eq!(rt; request.as_slice(), asked.as_slice());
     assert_eq!(rt; response.as_slice(), said.as_slice());
+    Ok(())
+}
+
+// What is told of a line that has a fault.
+fn told<R: Abort + AllocGlobal>(rt: &R, line: &[u8]) -> Result<String, Fail> {
+    let fault = fault_of(line).ok_or("the line has a fault")?;
+    let faulty = FaultyLine {
+        number: 2,
+        line,
+        fault,
+    };
+    Ok(format!(in rt.alloc(); "{faulty}")?)
+}
+
+#[test]
+fn the_place_of_a_fault_is_told(rt: HostRuntime) -> Result<(), Fail> {
+    for (line, want) in [
+        (
+            b"flashread  0x8000 5000".as_slice(),
+            "line 2, word 3: `5000` is not a number from 0 to 4096",
+        ),
+        (b" pin up", "line 2, word 2: `up` is not on or off"),
+        (
+            b"tick\t1",
+            "line 2, byte 5: 0x09 is not printable ASCII",
+        ),
+        (
+            b" flashread  0 ",
+            "line 2: `flashread` has 1 words behind it, not 2",
+        ),
+        (
+            [b' '; 16_385].as_slice(),
+            "line 2: the line has more than 16384 bytes",
+        ),
+    ] {
+        assert_eq!(rt; told(&rt, line)?.as_str(), want);
+    }
+    Ok(())
+}
+
+#[test]
+fn the_word_of_the_command_line_at_fault_is_told(rt: HostRuntime) -> Result<(), Fail> {
+    let option = [Word::new(rt.alloc(), b"-f")?];
+    let faulty = FaultyWords { words: &option };
+    assert_eq!(rt;
+        format!(in rt.alloc(); "{faulty}")?.as_str(),
+        "word 1: `-f` is empty or an option, and no flash file"
+    );
     Ok(())
 }

@@ -31,6 +31,13 @@ impl Word {
         })
     }
 
+    /// Its bytes.
+    pub fn as_bytes(&self) -> &[u8]
+        ensures { result.now ≡ self.now }
+    {
+        self.bytes.as_slice()
+    }
+
     /// Whether it names a flash file: it is not empty, and no option, which begins with a hyphen.
     pub fn names_flash(&self) -> bool
         ensures { result ≡ names_flash self.now }

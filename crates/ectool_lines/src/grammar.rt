@@ -1,23 +1,23 @@
 // Reading a line.
 ghost use Rattle.std.specs.Prelude.{◌≡◌, ◌∷◌, IfOk, IfSome};
+ghost use Rattle.script_words.specs.Faults.{by_kind};
 ghost use Rattle.script_words.specs.Lines.{checked};
 ghost use Rattle.script_words.specs.Words.{words_of};
 ghost use Rattle.script_words.specs.Forms.{alone, with_one, with_two, with_three, number_to, hex_to};
 ghost use Rattle.ectool_lines.specs.Tools.{region_named, region_to, protect_named, protect_bits, protect_form, protect_by, tool_of, tool_by, IsInRange};
 
 use crate::Tool;
-use ec_types::Why;
 use flash_dev::Region;
 use script_words::{
-    HexBytes, check_line, is_word, next_word, no_words, number_to, one_word, three_words, two_words,
+    Fault, HexBytes, Wanted, check_line, is_word, next_word, no_words, number_to, one_word,
+    three_words, two_or, two_words,
 };
 
-/// What a line without its line feed says, or the first thing that is wrong with it: `TooLong`, `Ascii`, then `Word` where
-/// no line begins with its first word, `Count` where none with that first word has so many words, and at last `Number` or
-/// `Hex` for the first word from the left that is not what it should be. A line that does nothing, as one that begins with
-/// `#`, is no such line, and gives `Word`.
-pub fn parse(line: &[u8]) -> Result<Tool<'_>, Why>
-    ensures tool { result ≡ tool_of line.now }
+/// What a line without its line feed says, or the first thing that is wrong with it: its length, its bytes, its first word,
+/// how many words there are behind it, and at last the first of these from the left that is not what it should be. A line
+/// that does nothing, as one that begins with `#`, is no such line: its first word is at fault.
+pub fn parse(line: &[u8]) -> Result<Tool<'_>, Fault>
+    ensures tool { by_kind result ≡ tool_of line.now }
     ensures within { IfOk result IsInRange }
 {
     check_line(line)?;
@@ -25,18 +25,18 @@ pub fn parse(line: &[u8]) -> Result<Tool<'_>, Why>
 }
 
 /// The same for a line that `check_line` found nothing wrong with.
-pub fn parse_checked(line: &[u8]) -> Result<Tool<'_>, Why>
+pub fn parse_checked(line: &[u8]) -> Result<Tool<'_>, Fault>
     requires { checked line.now ≡ Ok tt }
-    ensures tool { result ≡ tool_of line.now }
+    ensures tool { by_kind result ≡ tool_of line.now }
     ensures within { IfOk result IsInRange }
 {
-    let (first, rest) = next_word(line).ok_or(Why::Word)?;
+    let (first, rest) = next_word(line).ok_or(Fault::of_word(1, Wanted::FirstWord))?;
     by_words(first, rest)
 }
 
 // The line with this first word, and the others after it.
-fn by_words<'a>(first: &[u8], rest: &'a [u8]) -> Result<Tool<'a>, Why>
-    ensures tool { result ≡ tool_by (first.now ∷ words_of rest.now) }
+fn by_words<'a>(first: &[u8], rest: &'a [u8]) -> Result<Tool<'a>, Fault>
+    ensures tool { by_kind result ≡ tool_by (first.now ∷ words_of rest.now) }
     ensures within { IfOk result IsInRange }
 {
     if is_word(first, b"hello") {
@@ -62,27 +62,27 @@ fn by_words<'a>(first: &[u8], rest: &'a [u8]) -> Result<Tool<'a>, Why>
     } else if is_word(first, b"resend") {
         alone(Tool::Resend, rest)
     } else {
-        Err(Why::Word)
+        Err(Fault::of_word(1, Wanted::FirstWord))
     }
 }
 
 // A first word that stands alone.
-fn alone(tool: Tool<'static>, words: &[u8]) -> Result<Tool<'static>, Why>
+fn alone(tool: Tool<'static>, words: &[u8]) -> Result<Tool<'static>, Fault>
     requires { IsInRange tool }
-    ensures tool { result ≡ alone tool.entry (words_of words.now) }
+    ensures tool { by_kind result ≡ alone tool.entry (words_of words.now) }
     ensures within { IfOk result IsInRange }
 {
     no_words(words)?;
     Ok(tool)
 }
 
-fn cmd_versions(words: &[u8]) -> Result<Tool<'_>, Why>
-    ensures tool { result ≡ with_one (number_to 65535) Tool.CmdVersions (words_of words.now) }
+fn cmd_versions(words: &[u8]) -> Result<Tool<'_>, Fault>
+    ensures tool { by_kind result ≡ with_one (number_to 65535) Tool.CmdVersions (words_of words.now) }
     ensures within { IfOk result IsInRange }
 {
     let number = one_word(words)?;
     Ok(Tool::CmdVersions {
-        number: number_to(number, 65535)? as u16,
+        number: number_to(2, number, 65535)? as u16,
     })
 }
 
@@ -103,39 +103,39 @@ fn region_named(word: &[u8]) -> Option<Region>
     }
 }
 
-fn region_info(words: &[u8]) -> Result<Tool<'_>, Why>
-    ensures tool { result ≡ with_one region_to Tool.RegionInfo (words_of words.now) }
+fn region_info(words: &[u8]) -> Result<Tool<'_>, Fault>
+    ensures tool { by_kind result ≡ with_one region_to Tool.RegionInfo (words_of words.now) }
     ensures within { IfOk result IsInRange }
 {
     let word = one_word(words)?;
-    let region = region_named(word).ok_or(Why::Word)?;
+    let region = region_named(word).ok_or(Fault::of_word(2, Wanted::Region))?;
     Ok(Tool::RegionInfo { region })
 }
 
-fn flash_read(words: &[u8]) -> Result<Tool<'_>, Why>
-    ensures tool { result ≡ with_two (number_to 4294967295) (number_to 4096) Tool.FlashRead (words_of words.now) }
+fn flash_read(words: &[u8]) -> Result<Tool<'_>, Fault>
+    ensures tool { by_kind result ≡ with_two (number_to 4294967295) (number_to 4096) Tool.FlashRead (words_of words.now) }
     ensures within { IfOk result IsInRange }
 {
     let (at, size) = two_words(words)?;
     Ok(Tool::FlashRead {
-        at: number_to(at, u32::MAX)?,
-        size: number_to(size, 4096)?,
+        at: number_to(2, at, u32::MAX)?,
+        size: number_to(3, size, 4096)?,
     })
 }
 
-fn flash_write(words: &[u8]) -> Result<Tool<'_>, Why>
-    ensures tool { result ≡ with_two (number_to 4294967295) (hex_to 4096) Tool.FlashWrite (words_of words.now) }
+fn flash_write(words: &[u8]) -> Result<Tool<'_>, Fault>
+    ensures tool { by_kind result ≡ with_two (number_to 4294967295) (hex_to 4096) Tool.FlashWrite (words_of words.now) }
     ensures within { IfOk result IsInRange }
 {
     let (at, bytes) = two_words(words)?;
     Ok(Tool::FlashWrite {
-        at: number_to(at, u32::MAX)?,
-        bytes: HexBytes::of_word(bytes, 4096)?,
+        at: number_to(2, at, u32::MAX)?,
+        bytes: HexBytes::of_word(3, bytes, 4096)?,
     })
 }
 
-fn flash_protect(words: &[u8]) -> Result<Tool<'_>, Why>
-    ensures tool { result ≡ protect_by (words_of words.now) }
+fn flash_protect(words: &[u8]) -> Result<Tool<'_>, Fault>
+    ensures tool { by_kind result ≡ protect_by (words_of words.now) }
     ensures within { IfOk result IsInRange }
 {
     match next_word(words) {
@@ -145,13 +145,13 @@ fn flash_protect(words: &[u8]) -> Result<Tool<'_>, Why>
 }
 
 // `flashprotect` behind the word of its form.
-fn protect_form(form: &[u8], words: &[u8]) -> Result<Tool<'static>, Why>
-    ensures tool { result ≡ protect_form form.now (words_of words.now) }
+fn protect_form(form: &[u8], words: &[u8]) -> Result<Tool<'static>, Fault>
+    ensures tool { by_kind result ≡ protect_form form.now (words_of words.now) }
     ensures within { IfOk result IsInRange }
 {
     match next_word(words) {
         Some(_) => protect_bits(form, words),
-        None => protect_named(form).ok_or(Why::Word),
+        None => protect_named(form).ok_or(Fault::of_word(2, Wanted::Protection)),
     }
 }
 
@@ -172,28 +172,29 @@ fn protect_named(form: &[u8]) -> Option<Tool<'static>>
 }
 
 // `flashprotect bits M F`.
-fn protect_bits(form: &[u8], words: &[u8]) -> Result<Tool<'static>, Why>
-    ensures tool { result ≡ protect_bits form.now (words_of words.now) }
+fn protect_bits(form: &[u8], words: &[u8]) -> Result<Tool<'static>, Fault>
+    ensures tool { by_kind result ≡ protect_bits form.now (words_of words.now) }
     ensures within { IfOk result IsInRange }
 {
-    let (mask, flags) = two_words(words)?;
+    let count = Fault::of_line(Wanted::ProtectWords);
+    let (mask, flags) = two_or(words, count)?;
     if !is_word(form, b"bits") {
-        return Err(Why::Word);
+        return Err(Fault::of_word(2, Wanted::Bits));
     }
     Ok(Tool::FlashProtect {
-        mask: number_to(mask, u32::MAX)?,
-        flags: number_to(flags, u32::MAX)?,
+        mask: number_to(3, mask, u32::MAX)?,
+        flags: number_to(4, flags, u32::MAX)?,
     })
 }
 
-fn test(words: &[u8]) -> Result<Tool<'_>, Why>
-    ensures tool { result ≡ with_three (number_to 4294967295) (number_to 32) (hex_to 32) Tool.Test (words_of words.now) }
+fn test(words: &[u8]) -> Result<Tool<'_>, Fault>
+    ensures tool { by_kind result ≡ with_three (number_to 4294967295) (number_to 32) (hex_to 32) Tool.Test (words_of words.now) }
     ensures within { IfOk result IsInRange }
 {
     let (ec_result, ret_len, bytes) = three_words(words)?;
     Ok(Tool::Test {
-        ec_result: number_to(ec_result, u32::MAX)?,
-        ret_len: number_to(ret_len, 32)?,
-        bytes: HexBytes::of_word(bytes, 32)?,
+        ec_result: number_to(2, ec_result, u32::MAX)?,
+        ret_len: number_to(3, ret_len, 32)?,
+        bytes: HexBytes::of_word(4, bytes, 32)?,
     })
 }

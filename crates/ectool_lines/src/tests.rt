@@ -2,6 +2,14 @@
 use crate::{Tool, parse};
 use ec_types::Why;
 use flash_dev::Region;
+use script_words::{Fault, Wanted};
+
+fn kind(read: Result<Tool<'_>, Fault>) -> Option<Why> {
+    match read {
+        Ok(_) => None,
+        Err(fault) => Some(fault.why()),
+    }
+}
 
 #[test]
 fn lines_are_read(rt: HostRuntime) {
@@ -86,29 +94,57 @@ fn protection_has_five_forms(rt: HostRuntime) {
             _ => assert!(rt; false),
         }
     }
-    assert!(rt; matches!(parse(b"flashprotect now 1"), Err(Why::Count)));
-    assert!(rt; matches!(parse(b"flashprotect never"), Err(Why::Word)));
-    assert!(rt; matches!(parse(b"flashprotect bit 1 x"), Err(Why::Word)));
-    assert!(rt; matches!(parse(b"flashprotect bits x 1"), Err(Why::Number)));
+    assert_eq!(rt; kind(parse(b"flashprotect now 1")), Some(Why::Count));
+    assert_eq!(rt; kind(parse(b"flashprotect never")), Some(Why::Word));
+    assert_eq!(rt; kind(parse(b"flashprotect bit 1 x")), Some(Why::Word));
+    assert_eq!(rt; kind(parse(b"flashprotect bits x 1")), Some(Why::Number));
 }
 
 #[test]
 fn the_first_fault_counts(rt: HostRuntime) {
-    assert!(rt; matches!(parse(&[b'\t'; 16_385]), Err(Why::TooLong)));
-    assert!(rt; matches!(parse(&[b'a'; 16_385]), Err(Why::TooLong)));
-    assert!(rt; matches!(parse(&[b'a'; 16_384]), Err(Why::Word)));
-    assert!(rt; matches!(parse(b"helo\t"), Err(Why::Ascii)));
-    assert!(rt; matches!(parse(b""), Err(Why::Word)));
-    assert!(rt; matches!(parse(b"Hello"), Err(Why::Word)));
-    assert!(rt; matches!(parse(b"hello x"), Err(Why::Count)));
-    assert!(rt; matches!(parse(b"flashread x"), Err(Why::Count)));
-    assert!(rt; matches!(parse(b"flashread 0 4097"), Err(Why::Number)));
-    assert!(rt; matches!(parse(b"flashread 4294967296 0"), Err(Why::Number)));
-    assert!(rt; matches!(parse(b"flashwrite 0x 0"), Err(Why::Number)));
-    assert!(rt; matches!(parse(b"flashwrite 0 012"), Err(Why::Hex)));
-    assert!(rt; matches!(parse(b"cmdversions 65536"), Err(Why::Number)));
-    assert!(rt; matches!(parse(b"regioninfo RO"), Err(Why::Word)));
-    assert!(rt; matches!(parse(b"regioninfo"), Err(Why::Count)));
-    assert!(rt; matches!(parse(b"test 0 33 x"), Err(Why::Number)));
-    assert!(rt; matches!(parse(b"test 0 32 x"), Err(Why::Hex)));
+    assert_eq!(rt; kind(parse(&[b'\t'; 16_385])), Some(Why::TooLong));
+    assert_eq!(rt; kind(parse(&[b'a'; 16_385])), Some(Why::TooLong));
+    assert_eq!(rt; kind(parse(&[b'a'; 16_384])), Some(Why::Word));
+    assert_eq!(rt; kind(parse(b"helo\t")), Some(Why::Ascii));
+    assert_eq!(rt; kind(parse(b"")), Some(Why::Word));
+    assert_eq!(rt; kind(parse(b"Hello")), Some(Why::Word));
+    assert_eq!(rt; kind(parse(b"hello x")), Some(Why::Count));
+    assert_eq!(rt; kind(parse(b"flashread x")), Some(Why::Count));
+    assert_eq!(rt; kind(parse(b"flashread 0 4097")), Some(Why::Number));
+    assert_eq!(rt; kind(parse(b"flashread 4294967296 0")), Some(Why::Number));
+    assert_eq!(rt; kind(parse(b"flashwrite 0x 0")), Some(Why::Number));
+    assert_eq!(rt; kind(parse(b"flashwrite 0 012")), Some(Why::Hex));
+    assert_eq!(rt; kind(parse(b"cmdversions 65536")), Some(Why::Number));
+    assert_eq!(rt; kind(parse(b"regioninfo RO")), Some(Why::Word));
+    assert_eq!(rt; kind(parse(b"regioninfo")), Some(Why::Count));
+    assert_eq!(rt; kind(parse(b"test 0 33 x")), Some(Why::Number));
+    assert_eq!(rt; kind(parse(b"test 0 32 x")), Some(Why::Hex));
+}
+
+#[test]
+fn the_word_at_fault_is_told(rt: HostRuntime) {
+    for (line, place, wanted) in [
+        (b"helo".as_slice(), 1, Wanted::FirstWord),
+        (b"regioninfo RO", 2, Wanted::Region),
+        (b"flashprotect never", 2, Wanted::Protection),
+        (b"flashprotect bit 1 2", 2, Wanted::Bits),
+        (
+            b"flashread 0x8000 5000",
+            3,
+            Wanted::Number {
+                least: 0,
+                most: 4096,
+            },
+        ),
+        (b"test 0 32 x", 4, Wanted::Bytes { most: 32 }),
+    ] {
+        assert_eq!(rt; parse(line).err(), Some(Fault::of_word(place, wanted)));
+    }
+    for (line, wanted) in [
+        (b"hello x".as_slice(), Wanted::Words { count: 0 }),
+        (b"test 0 32", Wanted::Words { count: 3 }),
+        (b"flashprotect now 1", Wanted::ProtectWords),
+    ] {
+        assert_eq!(rt; parse(line).err(), Some(Fault::of_line(wanted)));
+    }
 }

@@ -8,7 +8,7 @@ use Rattle.ec_model.specs.declared.event.WorldReset.{WorldReset}
 use Rattle.ec_model.specs.declared.event.WorldReset.TheVariants.{Pin as PinReset, Watchdog}
 use Rattle.script_words.specs.Words.{words_of}
 use Rattle.script_words.specs.Lines.{checked, does_nothing}
-use Rattle.script_words.specs.Forms.{◌>>=◌, two_words, with_one, number_to, hex_to}
+use Rattle.script_words.specs.Forms.{◌>>=◌, one_word, two_words, with_one, number_to, count_to, hex_to}
 use Rattle.script_lines.specs.declared.line.Line.{Line}
 use Rattle.script_lines.specs.declared.line.Line.TheVariants.{Nothing, Tool, Pin, Power, Reset, Tick, PortsOut, PortsIn}
 
@@ -20,6 +20,10 @@ switch_named word = if bytes_eq word (codes "on") then Some true else if bytes_e
 abbrev pub switch_to : List ℕ → Result Bool Why
 switch_to word = ok_or (switch_named word) Word
 
+-- one word, which says on or off
+abbrev pub switch_by : List (List ℕ) → Result Bool Why
+switch_by words = one_word words >>= switch_to
+
 -- the cause of a reset that a word names
 abbrev pub cause_named : List ℕ → Option WorldReset
 cause_named word =
@@ -30,10 +34,6 @@ cause_named word =
 -- a word that names the cause of a reset
 abbrev pub cause_to : List ℕ → Result WorldReset Why
 cause_to word = ok_or (cause_named word) Word
-
--- a word that is a number, of at least one and at most so large
-abbrev pub count_to : ℕ → List ℕ → Result ℕ Why
-count_to most word = number_to most word >>= λ number. if nat_le 1 number then Ok number else Err Number
 
 -- bytes for ports in a row, the last of which is at most 65,535
 abbrev pub ports_out : ℕ → List ℕ → Result Line Why
@@ -57,8 +57,8 @@ in_by words =
 abbrev pub line_by : List (List ℕ) → Result Line Why
 line_by [] = Ok Tool
 line_by (first ∷ words) =
-    if bytes_eq first (codes "pin") then with_one switch_to Pin words else
-    if bytes_eq first (codes "power") then with_one switch_to Power words else
+    if bytes_eq first (codes "pin") then (switch_by words >>= λ on. Ok (Pin on)) else
+    if bytes_eq first (codes "power") then (switch_by words >>= λ on. Ok (Power on)) else
     if bytes_eq first (codes "reset") then with_one cause_to Reset words else
     if bytes_eq first (codes "tick") then with_one (count_to 100000) Tick words else
     if bytes_eq first (codes "out") then out_by words else

@@ -2,6 +2,7 @@
 use crate::{Line, parse};
 use ec_model::WorldReset;
 use ec_types::Why;
+use script_words::{Fault, Wanted};
 
 #[test]
 fn events_are_read(rt: HostRuntime) {
@@ -33,8 +34,12 @@ fn some_lines_do_nothing(rt: HostRuntime) {
         assert!(rt; matches!(parse(line), Ok(Line::Nothing)));
     }
     assert!(rt; matches!(parse(b" #"), Ok(Line::Tool)));
-    assert!(rt; matches!(parse(b"#\t"), Err(Why::Ascii)));
-    assert!(rt; matches!(parse(&[b' '; 16_385]), Err(Why::TooLong)));
+    for (line, wanted) in [
+        (b"#\t".as_slice(), Wanted::Printable),
+        (&[b' '; 16_385], Wanted::ShortLine),
+    ] {
+        assert_eq!(rt; parse(line).err(), Some(Fault::of_line(wanted)));
+    }
 }
 
 #[test]
@@ -88,8 +93,38 @@ fn the_first_fault_counts(rt: HostRuntime) {
         (b"in 65535 2", Why::Number),
     ] {
         match parse(line) {
-            Err(why) => assert_eq!(rt; why, want),
+            Err(fault) => assert_eq!(rt; fault.why(), want),
             Ok(_) => assert!(rt; false),
         }
     }
+}
+
+#[test]
+fn the_word_at_fault_is_told(rt: HostRuntime) {
+    for (line, place, wanted) in [
+        (b"pin up".as_slice(), 2, Wanted::Switch),
+        (b"reset cold", 2, Wanted::Cause),
+        (
+            b"tick 0",
+            2,
+            Wanted::Number {
+                least: 1,
+                most: 100_000,
+            },
+        ),
+        (
+            b"in 65536 0",
+            2,
+            Wanted::Number {
+                least: 0,
+                most: 65_535,
+            },
+        ),
+        (b"out 0 0", 3, Wanted::Bytes { most: 8192 }),
+        (b"in 65535 2", 3, Wanted::Ports),
+    ] {
+        assert_eq!(rt; parse(line).err(), Some(Fault::of_word(place, wanted)));
+    }
+    let count = Wanted::Words { count: 2 };
+    assert_eq!(rt; parse(b"in 0").err(), Some(Fault::of_line(count)));
 }

@@ -17,6 +17,10 @@ Err why >>= next = Err why
 abbrev pub number_to : ℕ → List ℕ → Result ℕ Why
 number_to most word = ok_or (number_of word) Number >>= λ number. if nat_le number most then Ok number else Err Number
 
+-- the same, of at least one
+abbrev pub count_to : ℕ → List ℕ → Result ℕ Why
+count_to most word = number_to most word >>= λ number. if nat_le 1 number then Ok number else Err Number
+
 -- a word that spells bytes, at most so many
 abbrev pub hex_to : ℕ → List ℕ → Result (List ℕ) Why
 hex_to limit word = ok_or (hex_of limit word) Hex

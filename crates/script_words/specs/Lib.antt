@@ -3,3 +3,4 @@ pub mod Numbers
 pub mod Hexes
 pub mod Lines
 pub mod Forms
+pub mod Faults

@@ -4,10 +4,11 @@ ghost use Rattle.std.specs.List.{list_all};
 ghost use Rattle.std.specs.Char.{is_ascii_hexdigit};
 ghost use Rattle.std.specs.Result.{result_ok};
 ghost use Rattle.hex.specs.Hex.{decode_of};
+ghost use Rattle.script_words.specs.Faults.{by_kind};
 ghost use Rattle.script_words.specs.Forms.{hex_to};
 ghost use Rattle.script_words.specs.Hexes.{hex_of, spelled, IsSpelling};
 
-use ec_types::Why;
+use crate::{Fault, Wanted};
 use std::marker::Model;
 
 /// The bytes that a word of hexadecimal digits spells, where they stand: they are decoded part by part, into a buffer of
@@ -42,13 +43,13 @@ impl<'a> HexBytes<'a> {
         Some(HexBytes { digits: word })
     }
 
-    /// The same bytes; `Hex` exactly where the word spells none, or more than `limit`.
-    pub fn of_word(word: &'a [u8], limit: usize) -> Result<HexBytes<'a>, Why>
-        ensures bytes { result ≡ hex_to limit word.now }
+    /// The bytes of a word that stands at this place of the line; a fault exactly where it spells none, or more than `limit`.
+    pub fn of_word(place: u8, word: &'a [u8], limit: usize) -> Result<HexBytes<'a>, Fault>
+        ensures bytes { by_kind result ≡ hex_to limit word.now }
         ensures some { IfOk result (λ bytes. 1 ≤ length bytes) }
         ensures most { IfOk result (λ bytes. length bytes ≤ limit) }
     {
-        HexBytes::of(word, limit).ok_or(Why::Hex)
+        HexBytes::of(word, limit).ok_or(Fault::of_word(place, Wanted::Bytes { most: limit }))
     }
 
     /// How many bytes they are.

@@ -1,15 +1,17 @@
 //! What the lines of a script are made of: words, numbers and hexadecimal bytes, and what is wrong with them.
 #![tactic(auto)]
 
+mod fault;
 mod hexes;
 mod line;
 mod numbers;
 mod words;
 
+pub use fault::{Fault, Wanted};
 pub use hexes::HexBytes;
-pub use line::check_line;
-pub use numbers::{number, number_to};
-pub use words::{is_word, next_word, no_words, one_word, three_words, two_words};
+pub use line::{check_line, is_unprintable};
+pub use numbers::{count_to, number, number_to};
+pub use words::{is_word, next_word, no_words, one_word, three_words, two_or, two_words};
 
 #[cfg(test)]
 mod tests;

@@ -2,9 +2,11 @@
 ghost use Rattle.std.specs.Prelude.{◌≡◌, ◌<◌, ◌≤◌, ℕ, [], ◌∷◌, MatchOption, MatchResult, length, slice_index};
 ghost use Rattle.std.specs.Str.{bytes_eq};
 ghost use Rattle.script_words.specs.Words.{words_of};
+ghost use Rattle.ec_types.specs.declared.why.Why.TheVariants.{Count};
+ghost use Rattle.script_words.specs.Faults.{kind_of, by_kind};
 ghost use Rattle.script_words.specs.Forms.{no_words, one_word, two_words, three_words};
 
-use ec_types::Why;
+use crate::{Fault, Wanted};
 
 /// The first word and what follows it; None exactly where there is no word.
 pub fn next_word(line: &[u8]) -> Option<(&[u8], &[u8])>
@@ -24,44 +26,71 @@ pub fn is_word(word: &[u8], name: &[u8]) -> bool
     word == name
 }
 
-/// Nothing but spaces; `Count` exactly where there is a word.
-pub fn no_words(line: &[u8]) -> Result<(), Why>
-    ensures { result ≡ no_words (words_of line.now) }
+/// Nothing but spaces; a fault exactly where there is a word.
+pub fn no_words(line: &[u8]) -> Result<(), Fault>
+    ensures { by_kind result ≡ no_words (words_of line.now) }
 {
-    match next_word(line) {
-        None => Ok(()),
-        Some(_) => Err(Why::Count),
-    }
+    end_of(line, words_wanted(0))
 }
 
-/// The one word; `Count` exactly where there is not one.
-pub fn one_word(line: &[u8]) -> Result<&[u8], Why>
-    ensures { MatchResult result (λ word. one_word (words_of line.now) ≡ Ok word.now) (λ why. one_word (words_of line.now) ≡ Err why) }
+/// The one word; a fault exactly where there is not one.
+pub fn one_word(line: &[u8]) -> Result<&[u8], Fault>
+    ensures { MatchResult result (λ word. one_word (words_of line.now) ≡ Ok word.now)
+        (λ fault. one_word (words_of line.now) ≡ Err (kind_of fault.wanted)) }
 {
-    let (word, after) = next_word(line).ok_or(Why::Count)?;
-    no_words(after)?;
+    let wanted = words_wanted(1);
+    let (word, after) = next_word(line).ok_or(wanted)?;
+    end_of(after, wanted)?;
     Ok(word)
 }
 
-/// The two words; `Count` exactly where there are not two.
-pub fn two_words(line: &[u8]) -> Result<(&[u8], &[u8]), Why>
+/// The two words; a fault exactly where there are not two.
+pub fn two_words(line: &[u8]) -> Result<(&[u8], &[u8]), Fault>
     ensures { MatchResult result (λ pair. two_words (words_of line.now) ≡ Ok (pair.0.now, pair.1.now))
-        (λ why. two_words (words_of line.now) ≡ Err why) }
+        (λ fault. two_words (words_of line.now) ≡ Err (kind_of fault.wanted)) }
 {
-    let (first, rest) = next_word(line).ok_or(Why::Count)?;
-    let (second, rest) = next_word(rest).ok_or(Why::Count)?;
-    no_words(rest)?;
+    two_or(line, words_wanted(2))
+}
+
+/// The three words; a fault exactly where there are not three.
+pub fn three_words(line: &[u8]) -> Result<(&[u8], &[u8], &[u8]), Fault>
+    ensures { MatchResult result (λ words. three_words (words_of line.now) ≡ Ok (words.0.now, words.1.now, words.2.now))
+        (λ fault. three_words (words_of line.now) ≡ Err (kind_of fault.wanted)) }
+{
+    let wanted = words_wanted(3);
+    let (first, rest) = next_word(line).ok_or(wanted)?;
+    let (second, third) = two_or(rest, wanted)?;
+    Ok((first, second, third))
+}
+
+// The fault of a line that has not so many words behind its first one.
+fn words_wanted(count: u8) -> Fault
+    ensures { kind_of result.wanted ≡ Count }
+{
+    Fault::of_line(Wanted::Words { count })
+}
+
+/// The two words, or else this fault, which is one of how many there are.
+pub fn two_or(line: &[u8], wanted: Fault) -> Result<(&[u8], &[u8]), Fault>
+    requires { kind_of wanted.wanted ≡ Count }
+    ensures { MatchResult result (λ pair. two_words (words_of line.now) ≡ Ok (pair.0.now, pair.1.now))
+        (λ fault. two_words (words_of line.now) ≡ Err (kind_of fault.wanted)) }
+{
+    let (first, rest) = next_word(line).ok_or(wanted)?;
+    let (second, rest) = next_word(rest).ok_or(wanted)?;
+    end_of(rest, wanted)?;
     Ok((first, second))
 }
 
-/// The three words; `Count` exactly where there are not three.
-pub fn three_words(line: &[u8]) -> Result<(&[u8], &[u8], &[u8]), Why>
-    ensures { MatchResult result (λ words. three_words (words_of line.now) ≡ Ok (words.0.now, words.1.now, words.2.now))
-        (λ why. three_words (words_of line.now) ≡ Err why) }
+// Nothing but spaces, or else this fault.
+fn end_of(line: &[u8], wanted: Fault) -> Result<(), Fault>
+    requires { kind_of wanted.wanted ≡ Count }
+    ensures { by_kind result ≡ no_words (words_of line.now) }
 {
-    let (first, rest) = next_word(line).ok_or(Why::Count)?;
-    let (second, third) = two_words(rest)?;
-    Ok((first, second, third))
+    match next_word(line) {
+        None => Ok(()),
+        Some(_) => Err(wanted),
+    }
 }
 
 // The line from its first word on.

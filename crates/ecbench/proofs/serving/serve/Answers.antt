@@ -12,8 +12,8 @@ use Rattle.ecbench.proofs.serving.serve.Goals as goal
 
 pub loop-number-init : goal.loop-number-init
 loop-number-init g c =
-    let fresh = c.new-reader.ensures in (
-      served-nothing (wire_view LpcKind c.args.bench.now) (g.S.Source.left c.args.source.now) (g.K.Sink.written c.args.sink.now) c.new-reader.result fresh (Takes-nothing (g.S.Source.left c.args.source.now)),
+    let fresh = c.requires in (
+      served-nothing (wire_view LpcKind c.args.bench.now) (g.S.Source.left c.args.source.now) (g.K.Sink.written c.args.sink.now) c.args.reader.now fresh (Takes-nothing (g.S.Source.left c.args.source.now)),
       rw fresh (omega arith),
       omega arith,
       omega arith,

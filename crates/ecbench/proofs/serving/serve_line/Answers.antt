@@ -1,6 +1,8 @@
-use Rattle.std.proofs.Common.{◌≡◌, ap, sym, ◌∙◌, Ok}
+use Rattle.std.proofs.Common.{◌≡◌, ap, sym, ◌∙◌, Ok, Result}
 use Rattle.ec_model.specs.declared.event.Event.TheVariants as event
 use Rattle.ec_model.specs.declared.event.WorldEvent.TheVariants as world
+use Rattle.script_words.specs.declared.fault.Fault.{Fault}
+use Rattle.script_words.specs.Faults.{by_kind}
 use Rattle.script_lines.specs.declared.line.Line.{Line}
 use Rattle.script_lines.specs.declared.line.Line.TheVariants as line
 use Rattle.script_lines.specs.Lines.{line_of}
@@ -12,25 +14,25 @@ use Rattle.ecbench.proofs.serving.serve_line.Goals as goal
 pub returns-in-Ok-Pin-clause-serves : goal.returns-in-Ok-Pin-clause-serves
 returns-in-Ok-Pin-clause-serves g c =
     let read = line.Pin c.in-Ok-Pin.on in
-    let is : line_of c.args.line.now ≡ Ok read = sym c.parse.ensures.line ∙ c.in-Ok-Pin.is ∙ ap (λ (found : Line). Ok found) c.in-Ok-Pin.field-0-is in
+    let is : line_of c.args.line.now ≡ Ok read = sym c.parse.ensures.line ∙ ap (λ (outcome : Result Line Fault). by_kind outcome) c.in-Ok-Pin.is ∙ ap (λ (found : Line). Ok found) c.in-Ok-Pin.field-0-is in
     event-serves c.serve_event.result c.args.number c.args.line.now (world.Pin c.in-Ok-Pin.on) (event.Pin c.in-Ok-Pin.on) _ _ _ _ (deed-read c.args.line.now read is) (λ other same. same) c.serve_event.ensures.serves
 
 pub returns-in-Ok-Power-clause-serves : goal.returns-in-Ok-Power-clause-serves
 returns-in-Ok-Power-clause-serves g c =
     let read = line.Power c.in-Ok-Power.on in
-    let is : line_of c.args.line.now ≡ Ok read = sym c.parse.ensures.line ∙ c.in-Ok-Power.is ∙ ap (λ (found : Line). Ok found) c.in-Ok-Power.field-0-is in
+    let is : line_of c.args.line.now ≡ Ok read = sym c.parse.ensures.line ∙ ap (λ (outcome : Result Line Fault). by_kind outcome) c.in-Ok-Power.is ∙ ap (λ (found : Line). Ok found) c.in-Ok-Power.field-0-is in
     event-serves c.serve_event-in-Ok-Power.result c.args.number c.args.line.now (world.Power c.in-Ok-Power.on) (event.Power c.in-Ok-Power.on) _ _ _ _ (deed-read c.args.line.now read is) (λ other same. same) c.serve_event-in-Ok-Power.ensures.serves
 
 pub returns-in-Ok-Reset-clause-serves : goal.returns-in-Ok-Reset-clause-serves
 returns-in-Ok-Reset-clause-serves g c =
     let read = line.Reset c.in-Ok-Reset.cause in
-    let is : line_of c.args.line.now ≡ Ok read = sym c.parse.ensures.line ∙ c.in-Ok-Reset.is ∙ ap (λ (found : Line). Ok found) c.in-Ok-Reset.field-0-is in
+    let is : line_of c.args.line.now ≡ Ok read = sym c.parse.ensures.line ∙ ap (λ (outcome : Result Line Fault). by_kind outcome) c.in-Ok-Reset.is ∙ ap (λ (found : Line). Ok found) c.in-Ok-Reset.field-0-is in
     event-serves c.serve_event-in-Ok-Reset.result c.args.number c.args.line.now (world.Reset c.in-Ok-Reset.cause) (event.Reset c.in-Ok-Reset.cause) _ _ _ _ (deed-read c.args.line.now read is) (λ other same. same) c.serve_event-in-Ok-Reset.ensures.serves
 
 pub returns-in-Ok-Tick-clause-serves : goal.returns-in-Ok-Tick-clause-serves
 returns-in-Ok-Tick-clause-serves g c =
     let read = line.Tick c.in-Ok-Tick.count in
-    let is : line_of c.args.line.now ≡ Ok read = sym c.parse.ensures.line ∙ c.in-Ok-Tick.is ∙ ap (λ (found : Line). Ok found) c.in-Ok-Tick.field-0-is in
+    let is : line_of c.args.line.now ≡ Ok read = sym c.parse.ensures.line ∙ ap (λ (outcome : Result Line Fault). by_kind outcome) c.in-Ok-Tick.is ∙ ap (λ (found : Line). Ok found) c.in-Ok-Tick.field-0-is in
     raw-serves c.serve_tick.result c.args.number c.args.line.now (Waits c.in-Ok-Tick.count) _ _ _ _ (deed-read c.args.line.now read is) c.serve_tick.ensures.serves
 
 pub returns-in-Ok-PortsOut-clause-serves : goal.returns-in-Ok-PortsOut-clause-serves
@@ -38,11 +40,11 @@ returns-in-Ok-PortsOut-clause-serves g c =
     let port = c.in-Ok-PortsOut.port in
     let bytes = c.in-Ok-PortsOut.bytes in
     let read = line.PortsOut port bytes in
-    let is : line_of c.args.line.now ≡ Ok read = sym c.parse.ensures.line ∙ c.in-Ok-PortsOut.is ∙ ap (λ (found : Line). Ok found) c.in-Ok-PortsOut.field-0-is in
+    let is : line_of c.args.line.now ≡ Ok read = sym c.parse.ensures.line ∙ ap (λ (outcome : Result Line Fault). by_kind outcome) c.in-Ok-PortsOut.is ∙ ap (λ (found : Line). Ok found) c.in-Ok-PortsOut.field-0-is in
     raw-serves c.serve_out.result c.args.number c.args.line.now (Writes port bytes) _ _ _ _ (deed-read c.args.line.now read is) c.serve_out.ensures.serves
 
 pub returns-in-Ok-PortsIn-clause-serves : goal.returns-in-Ok-PortsIn-clause-serves
 returns-in-Ok-PortsIn-clause-serves g c =
     let read = line.PortsIn c.in-Ok-PortsIn.port c.in-Ok-PortsIn.count in
-    let is : line_of c.args.line.now ≡ Ok read = sym c.parse.ensures.line ∙ c.in-Ok-PortsIn.is ∙ ap (λ (found : Line). Ok found) c.in-Ok-PortsIn.field-0-is in
+    let is : line_of c.args.line.now ≡ Ok read = sym c.parse.ensures.line ∙ ap (λ (outcome : Result Line Fault). by_kind outcome) c.in-Ok-PortsIn.is ∙ ap (λ (found : Line). Ok found) c.in-Ok-PortsIn.field-0-is in
     raw-serves c.serve_in.result c.args.number c.args.line.now (Reads c.in-Ok-PortsIn.port c.in-Ok-PortsIn.count) _ _ _ _ (deed-read c.args.line.now read is) c.serve_in.ensures.serves
