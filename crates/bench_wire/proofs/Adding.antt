@@ -23,10 +23,10 @@ use Rattle.ec_model.specs.HostCalls.{on_after_entry, with_byte}
 use Rattle.ec_model.specs.Upset.{access_byte, event_byte, is_changed, is_cut_entry}
 use Rattle.ec_core.specs.View.{EcView}
 use Rattle.ec_core.specs.Held.{on_behind, IsSpent}
-use Rattle.ec_wire.specs.Calls.{WireView, RunsAlong, RoseBy, IsPlayed, IsPowerless, bench_of, is_host_call, Grows, AccessAdds, WaitAdds, is_failed_entry}
+use Rattle.ec_wire.specs.Calls.{WireView, RunsAlong, RoseBy, PlaysAlong, IsPowerless, bench_of, is_host_call, Grows, AccessAdds, WaitAdds, is_failed_entry}
 use Rattle.ec_wire.proofs.Calm.{with_byte-access_byte}
 use Rattle.bench_wire.specs.BenchView.{BenchView, wire_view}
-use Rattle.bench_wire.specs.Adding.{Adds, IsPlayedBy, EntryTold}
+use Rattle.bench_wire.specs.Adding.{Adds, PlaysBy, EntryTold}
 
 -- a step is a run of one entry
 pub run-of-step : (entry : Entry) (old new : Option Table) → Changes (λ before after. IsStep before entry after) old new → RunsAlong (entry ∷ []) old new
@@ -127,7 +127,7 @@ pub one-played : (call : BenchCall) (entry : Entry) (old new : Bench) → Played
 one-played call entry old new played = (entry ∷ [], [], new, refl, played, (refl, refl))
 
 step-played : (event : Event) (answer : ℕ) (hurt : Hurt) (old new : WireView) (o p : Option Table) → old.armed ≡ [] → EntryTold event answer hurt old new o p
-    → Changes (IsPlayedBy (Step event answer (event_byte event) answer hurt ∷ []) old new) o p
+    → PlaysBy (Step event answer (event_byte event) answer hurt ∷ []) old new o p
 step-played event answer hurt old new None None none plays = tt
 step-played event answer hurt old new None (Some b) none plays = plays
 step-played event answer hurt old new (Some a) None none plays = plays
@@ -138,7 +138,7 @@ step-played event answer hurt old new (Some a) (Some b) none plays = record {
 
 -- the host's own call
 host-played : (event : Event) (answer : ℕ) (hurt : Hurt) (old new : WireView) (o p : Option Table) → is_host_call (call_of event) ≡ true → old.armed ≡ [] → EntryTold event answer hurt old new o p
-    → Changes (IsPlayed (Step event answer (event_byte event) answer hurt ∷ []) old new) o p
+    → PlaysAlong (Step event answer (event_byte event) answer hurt ∷ []) old new o p
 host-played event answer hurt old new None None host none plays = tt
 host-played event answer hurt old new None (Some b) host none plays = plays
 host-played event answer hurt old new (Some a) None host none plays = plays
@@ -149,7 +149,7 @@ host-played event answer hurt old new (Some a) (Some b) host none plays = record
 }
 
 -- the mark of a line
-pub mark-played : (line : ℕ) (old new : WireView) (o p : Option Table) → ((table : Table) → bench_of new table ≡ bench_of old table) → p ≡ o → Changes (IsPlayedBy (Mark line ∷ []) old new) o p
+pub mark-played : (line : ℕ) (old new : WireView) (o p : Option Table) → ((table : Table) → bench_of new table ≡ bench_of old table) → p ≡ o → PlaysBy (Mark line ∷ []) old new o p
 mark-played line old new None None same table_is = tt
 mark-played line old new None (Some b) same table_is = cc
 mark-played line old new (Some a) None same table_is = cc

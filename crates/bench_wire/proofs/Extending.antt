@@ -7,10 +7,10 @@ use Rattle.ec_model.specs.Upset.{is_cut_entry}
 use Rattle.flash_dev.specs.Told.{Changes}
 use Rattle.ec_model.specs.Table.{Table}
 use Rattle.ec_model.proofs.PlayRuns.{calls-append}
-use Rattle.ec_wire.specs.Calls.{WireView, RoseBy, Grows, IsPlayed, ArePowerless, bench_of, is_failed_entry, with_spare}
+use Rattle.ec_wire.specs.Calls.{WireView, RoseBy, Grows, PlaysAlong, ArePowerless, bench_of, is_failed_entry, with_spare}
 use Rattle.ec_wire.proofs.Growth.{powerless-then}
 use Rattle.ec_wire.proofs.Appends.{runs-append, runs-nil, on_after-append, count_by-append}
-use Rattle.bench_wire.specs.Adding.{Extends, IsPlayedBy}
+use Rattle.bench_wire.specs.Adding.{Extends, PlaysBy}
 
 -- a count that rose along two lists of entries
 rose-along : (test : Entry → Bool) (first second : List Entry) (before middle now : ℕ) → RoseBy (count_by test first) before middle → RoseBy (count_by test second) middle now → RoseBy (count_by test (first ++ second)) before now
@@ -19,7 +19,7 @@ rose-along test first second before middle now once again =
     (record { later = omega (arith, once.later, again.later); risen = omega (arith, once.risen, again.risen, again.later) })
 
 -- calls on the bench, behind others
-by-then : (first second : List Entry) (old middle new : WireView) (o p q : Option Table) → Changes (IsPlayedBy first old middle) o p → Changes (IsPlayedBy second middle new) p q → Changes (IsPlayedBy (first ++ second) old new) o q
+by-then : (first second : List Entry) (old middle new : WireView) (o p q : Option Table) → PlaysBy first old middle o p → PlaysBy second middle new p q → PlaysBy (first ++ second) old new o q
 by-then first second old middle new None None None once again = tt
 by-then first second old middle new None None (Some c) once again = again
 by-then first second old middle new None (Some b) q once again = absurd once
@@ -31,13 +31,13 @@ by-then first second old middle new (Some a) (Some b) (Some c) once again = reco
 }
 
 -- the host's calls are calls on the bench
-by-host : (added : List Entry) (old new : WireView) (o p : Option Table) → Changes (IsPlayed added old new) o p → Changes (IsPlayedBy added old new) o p
+by-host : (added : List Entry) (old new : WireView) (o p : Option Table) → PlaysAlong added old new o p → PlaysBy added old new o p
 by-host added old new None None played = tt
 by-host added old new None (Some b) played = played
 by-host added old new (Some a) None played = played
 by-host added old new (Some a) (Some b) played = record { calls = played.calls; played = played.played }
 
-by-nil : (spare : ℕ) (view : WireView) (o : Option Table) → Changes (IsPlayedBy [] view (with_spare spare view)) o o
+by-nil : (spare : ℕ) (view : WireView) (o : Option Table) → PlaysBy [] view (with_spare spare view) o o
 by-nil spare view None = tt
 by-nil spare view (Some table) = record { calls = []; played = (refl, refl) }
 

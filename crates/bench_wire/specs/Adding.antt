@@ -12,14 +12,19 @@ use Rattle.ec_model.specs.HostCalls.{on_after}
 use Rattle.ec_model.specs.Upset.{is_cut_entry, event_byte}
 use Rattle.flash_dev.specs.Told.{Changes}
 use Rattle.ec_model.specs.Table.{Table}
-use Rattle.ec_model.specs.Bench.{BenchCall}
+use Rattle.ec_model.specs.Bench.{Bench, BenchCall}
 use Rattle.ec_model.specs.Played.{PlayedAll, PlaysEntry}
 use Rattle.ec_wire.specs.Calls.{WireView, RunsAlong, RoseBy, ArePowerless, bench_of, is_failed_entry}
 
 -- calls on the bench, whatever they are, added the entries
-pub record IsPlayedBy (added : List Entry) (old new : WireView) (before after : Table) : Type 0 where
+pub record IsPlayedBy (added : List Entry) (old new : Bench) : Type 0 where
   pub calls : List BenchCall
-  pub played : PlayedAll (bench_of old before) calls added (bench_of new after)
+  pub played : PlayedAll old calls added new
+
+-- the same of the benches behind a wire, where its tables are told
+abbrev pub PlaysBy : List Entry → WireView → WireView → Option Table → Option Table → Type 0
+PlaysBy added old new before after =
+    Changes (λ first last. IsPlayedBy added (bench_of old first) (bench_of new last)) before after
 
 -- These entries were added, whatever they are: the controller's states are joined by a run along them, calls on the bench
 -- are played along them, and each failed and each cut entry raised its count.
@@ -32,7 +37,7 @@ pub record Extends (added : List Entry) (old new : WireView) : Type 0 where
   pub faults : RoseBy (count_by is_failed_entry added) old.faults new.faults
   pub cuts : RoseBy (count_by is_cut_entry added) old.cuts new.cuts
   pub run : RunsAlong added old.table new.table
-  pub played : Changes (IsPlayedBy added old new) old.table new.table
+  pub played : PlaysBy added old new old.table new.table
 
 -- one entry was added, which took one off the room
 pub record Adds (entry : Entry) (old new : WireView) : Type 0 where

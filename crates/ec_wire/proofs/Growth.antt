@@ -10,11 +10,10 @@ use Rattle.ec_model.specs.declared.event.Entry.{Entry}
 use Rattle.ec_model.specs.declared.event.Entry.TheVariants.{Step, Mark}
 use Rattle.ec_model.specs.Upset.{access_byte, is_world, is_changed, is_cut_entry}
 use Rattle.ec_model.specs.HostCalls.{HostCall, Did, Waited, with_byte, calls_of, on_after, on_after_entry}
-use Rattle.flash_dev.specs.Told.{Changes}
 use Rattle.ec_model.specs.Table.{Table}
 use Rattle.ec_model.specs.Bench.{Armed}
 use Rattle.ec_model.proofs.PlayRuns.{calls-append}
-use Rattle.ec_wire.specs.Calls.{WireView, RoseBy, KeepsQuiet, IsPlayed, ArePowerless, bench_of, is_host_call, Grows, AccessAdds, WaitAdds, Made, is_wire_step, is_failed_entry}
+use Rattle.ec_wire.specs.Calls.{WireView, RoseBy, KeepsQuiet, PlaysAlong, ArePowerless, bench_of, is_host_call, Grows, AccessAdds, WaitAdds, Made, is_wire_step, is_failed_entry}
 use Rattle.ec_wire.proofs.Appends.{calls_of-append, are_calls-append, runs-append, runs-nil, on_after-append, count_by-append}
 
 -- two tests that hold
@@ -53,7 +52,7 @@ powerless-then on [] more first second = second
 powerless-then on (entry ∷ added) more first second = (first.0, powerless-then (on_after_entry entry on) added more first.1 second)
 
 -- calls on the bench, behind others
-played-then : (added more : List Entry) (old middle new : WireView) (o p q : Option Table) → Changes (IsPlayed added old middle) o p → Changes (IsPlayed more middle new) p q → Changes (IsPlayed (added ++ more) old new) o q
+played-then : (added more : List Entry) (old middle new : WireView) (o p q : Option Table) → PlaysAlong added old middle o p → PlaysAlong more middle new p q → PlaysAlong (added ++ more) old new o q
 played-then added more old middle new None None None first second = tt
 played-then added more old middle new None None (Some c) first second = second
 played-then added more old middle new None (Some b) q first second = absurd first
@@ -65,7 +64,7 @@ played-then added more old middle new (Some a) (Some b) (Some c) first second = 
   played = calls-append (bench_of old a) (bench_of middle b) (bench_of new c) first.calls second.calls added more first.played second.played;
 }
 
-played-nil : (view : WireView) (o : Option Table) → Changes (IsPlayed [] view view) o o
+played-nil : (view : WireView) (o : Option Table) → PlaysAlong [] view view o o
 played-nil view None = tt
 played-nil view (Some table) = record { calls = []; hosts = refl; played = (refl, refl) }
 

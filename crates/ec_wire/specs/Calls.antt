@@ -85,10 +85,15 @@ is_host_call Waits = true
 is_host_call other = false
 
 -- the host's calls on the bench, one after the other, added the entries
-pub record IsPlayed (added : List Entry) (old new : WireView) (before after : Table) : Type 0 where
+pub record IsPlayed (added : List Entry) (old new : Bench) : Type 0 where
   pub calls : List BenchCall
   pub hosts : IsTrue (list_all is_host_call calls)
-  pub played : PlayedAll (bench_of old before) calls added (bench_of new after)
+  pub played : PlayedAll old calls added new
+
+-- the same of the benches behind a wire, where its tables are told
+abbrev pub PlaysAlong : List Entry → WireView → WireView → Option Table → Option Table → Type 0
+PlaysAlong added old new before after =
+    Changes (λ first last. IsPlayed added (bench_of old first) (bench_of new last)) before after
 
 -- a controller that is off, or that lost its power in an entry, answers what no power answers: 0xFF to an access
 abbrev pub IsPowerless : Bool → Entry → Type 0
@@ -118,7 +123,7 @@ pub record Grows (added : List Entry) (old new : WireView) : Type 0 where
   pub faults : RoseBy (count_by is_failed_entry added) old.faults new.faults
   pub cuts : RoseBy (count_by is_cut_entry added) old.cuts new.cuts
   pub run : RunsAlong added old.table new.table
-  pub played : Changes (IsPlayed added old new) old.table new.table
+  pub played : PlaysAlong added old new old.table new.table
 
 -- an access added the world's events that were due, and then its own entry
 pub record AccessAdds (access : Access) (seen : ℕ) (old new : WireView) : Type 0 where

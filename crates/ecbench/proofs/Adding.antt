@@ -24,7 +24,7 @@ use Rattle.ecbench.specs.Serving.{MarksLine, CarriesLine, HappensLine, HappensMa
 -- the same from another room
 extends-spare : (spare : ℕ) (added : List Entry) (old new : WireView) → Extends added (with_spare spare old) new → Extends added old new
 extends-spare spare added old new e =
-    record { entries = e.entries; on = e.on; bus = e.bus; armed = e.armed; faults = e.faults; cuts = e.cuts; run = e.run }
+    record { entries = e.entries; on = e.on; bus = e.bus; armed = e.armed; powerless = e.powerless; faults = e.faults; cuts = e.cuts; run = e.run; played = e.played }
 
 -- a mark
 pub marks-extends : (number : ℕ) (old new : WireView) → MarksLine number old new → Extends (Mark number ∷ []) old new
@@ -40,7 +40,7 @@ pub record LineAdds (number : ℕ) (line text : List ℕ) (old new : WireView) :
   pub extends : Extends added old new
   pub does : DoesDeed seen number old.on line added text new.on
 
-carried-adds : (number : ℕ) (line text : List ℕ) (old new : WireView) → old.bus ≡ Lpc → old.armed ≡ false → CarriesLine number line text old new → LineAdds number line text old new
+carried-adds : (number : ℕ) (line text : List ℕ) (old new : WireView) → old.bus ≡ Lpc → old.armed ≡ [] → CarriesLine number line text old new → LineAdds number line text old new
 carried-adds number line text old new lpc disarmed carried =
     let marked = carried.marked in
     let mark = marks-extends number old marked carried.marks in
@@ -84,7 +84,7 @@ happened-adds number line text old new happened said =
       });
     }
 
-made-adds : (number : ℕ) (line text words : List ℕ) (raw : Raw) (old new : WireView) → old.armed ≡ false → deed_of line ≡ Ok (Makes raw) → MakesMarked number raw words old new → text ≡ printed words → LineAdds number line text old new
+made-adds : (number : ℕ) (line text words : List ℕ) (raw : Raw) (old new : WireView) → old.armed ≡ [] → deed_of line ≡ Ok (Makes raw) → MakesMarked number raw words old new → text ≡ printed words → LineAdds number line text old new
 made-adds number line text words raw old new disarmed wants behind said =
     let marked = behind.marked in
     let mark = marks-extends number old marked behind.marks in
@@ -110,7 +110,7 @@ made-adds number line text words raw old new disarmed wants behind said =
       });
     }
 
-pub line-adds : (number : ℕ) (line text : List ℕ) (old new : WireView) → old.bus ≡ Lpc → old.armed ≡ false → DoesLine number line text old new → LineAdds number line text old new
+pub line-adds : (number : ℕ) (line text : List ℕ) (old new : WireView) → old.bus ≡ Lpc → old.armed ≡ [] → DoesLine number line text old new → LineAdds number line text old new
 line-adds number line text old new lpc disarmed (Carried carries) = carried-adds number line text old new lpc disarmed carries
 line-adds number line text old new lpc disarmed (Happened happened said) = happened-adds number line text old new happened said
 line-adds number line text old new lpc disarmed (Made raw words wants makes said) = made-adds number line text words raw old new disarmed wants makes said

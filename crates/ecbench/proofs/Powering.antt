@@ -50,7 +50,7 @@ pub record Grew (old new : WireView) : Type 0 where
 
 -- the same from another room
 grew-spare : (spare : ℕ) (old new : WireView) (added : List Entry) → Extends added (with_spare spare old) new → Extends added old new
-grew-spare spare old new added e = record { entries = e.entries; on = e.on; bus = e.bus; armed = e.armed; faults = e.faults; cuts = e.cuts; run = e.run }
+grew-spare spare old new added e = record { entries = e.entries; on = e.on; bus = e.bus; armed = e.armed; powerless = e.powerless; faults = e.faults; cuts = e.cuts; run = e.run; played = e.played }
 
 -- all that a run added
 pub drives-grew : (exit : Exit) (old new : WireView) (left rest before after : Option (List ℕ)) → Drives exit old new left rest before after → Grew old new

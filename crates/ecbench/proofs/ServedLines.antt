@@ -29,7 +29,7 @@ record LineDid (number : ℕ) (line : List ℕ) (old new : WireView) (before aft
   pub done : IsDone seen number old.on line own said new.on
   pub printed : Appends said before after
 
-line-did : (number : ℕ) (line : List ℕ) (old new : WireView) (before after : Option (List ℕ)) → old.bus ≡ Lpc → old.armed ≡ false → PassesLine line old new before after ⊎ ((text : List ℕ) × DoesLine number line text old new × Appends text before after) → LineDid number line old new before after
+line-did : (number : ℕ) (line : List ℕ) (old new : WireView) (before after : Option (List ℕ)) → old.bus ≡ Lpc → old.armed ≡ [] → PassesLine line old new before after ⊎ ((text : List ℕ) × DoesLine number line text old new × Appends text before after) → LineDid number line old new before after
 line-did number line old new before after lpc disarmed (inl passes) =
     record {
       own = [];
@@ -50,7 +50,7 @@ record DidMore (number : ℕ) (raws : List (List ℕ)) (line : List ℕ) (opened
   pub done : AreDone seen 1 opened.on (map without_return raws ++ line ∷ []) own text new.on
   pub printed : Appends text before later
 
-did-more : (number : ℕ) (opened now new : WireView) (reader : ReaderView) (line : List ℕ) (left rest before after printed : Option (List ℕ)) → (served : Served number opened now reader left rest before after) → opened.bus ≡ Lpc → opened.armed ≡ false →
+did-more : (number : ℕ) (opened now new : WireView) (reader : ReaderView) (line : List ℕ) (left rest before after printed : Option (List ℕ)) → (served : Served number opened now reader left rest before after) → opened.bus ≡ Lpc → opened.armed ≡ [] →
     ServesLine (Ok tt) number line now new after printed → DidMore number served.raws line opened new before printed
 did-more number opened now new reader line left rest before after printed served lpc disarmed line_done =
     let extends = served.extends in
@@ -70,7 +70,7 @@ map-more [] raw = refl
 map-more (first ∷ raws) raw = ap (λ (rest : List (List ℕ)). without_return first ∷ rest) (map-more raws raw)
 
 -- one more line was done
-pub served-more : (number : ℕ) (opened now new : WireView) (reader after_reader : ReaderView) (left rest more before after printed : Option (List ℕ)) → Served number opened now reader left rest before after → opened.bus ≡ Lpc → opened.armed ≡ false →
+pub served-more : (number : ℕ) (opened now new : WireView) (reader after_reader : ReaderView) (left rest more before after printed : Option (List ℕ)) → Served number opened now reader left rest before after → opened.bus ≡ Lpc → opened.armed ≡ [] →
     Finds (Ok Line) reader after_reader rest more → ServesLine (Ok tt) number after_reader.line now new after printed → Served (number + 1) opened new after_reader left more before printed
 served-more number opened now new reader after_reader left rest more before after printed served lpc disarmed finds line_done =
     let all = reader.ahead ++ finds.came in
@@ -99,7 +99,7 @@ served-more number opened now new reader after_reader left rest more before afte
     }
 
 -- the last line was done
-pub serves-last : (number : ℕ) (opened now new : WireView) (reader after_reader : ReaderView) (left rest more before after printed : Option (List ℕ)) → Served number opened now reader left rest before after → opened.bus ≡ Lpc → opened.armed ≡ false → after_reader.given ≤ most_bytes →
+pub serves-last : (number : ℕ) (opened now new : WireView) (reader after_reader : ReaderView) (left rest more before after printed : Option (List ℕ)) → Served number opened now reader left rest before after → opened.bus ≡ Lpc → opened.armed ≡ [] → after_reader.given ≤ most_bytes →
     Finds (Ok Last) reader after_reader rest more → ServesLine (Ok tt) number after_reader.line now new after printed → Serves Done opened new left more before printed
 serves-last number opened now new reader after_reader left rest more before after printed served lpc disarmed within finds line_done =
     let all = reader.ahead ++ finds.came in
@@ -138,7 +138,7 @@ appends-last : (text : List ℕ) (old middle new : Option (List ℕ)) → Append
 appends-last text old middle new once again = subst (λ (bytes : List ℕ). Appends bytes old new) (append-nil text) (appends-then text [] old middle new once again)
 
 -- a line ended the script
-pub serves-stopped : (exit : Exit) (number : ℕ) (opened now new : WireView) (reader : ReaderView) (line : List ℕ) (left rest more before after printed : Option (List ℕ)) → (served : Served number opened now reader left rest before after) → opened.bus ≡ Lpc → opened.armed ≡ false →
+pub serves-stopped : (exit : Exit) (number : ℕ) (opened now new : WireView) (reader : ReaderView) (line : List ℕ) (left rest more before after printed : Option (List ℕ)) → (served : Served number opened now reader left rest before after) → opened.bus ≡ Lpc → opened.armed ≡ [] →
     AtLine served.raws line left more → ServesLine (Err exit) number line now new after printed → Serves exit opened new left more before printed
 serves-stopped (BadLine at reason) number opened now new reader line left rest more before after printed served lpc disarmed at_line (same, faulty, still, unprinted) =
     record {
