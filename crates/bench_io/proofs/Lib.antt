@@ -1,3 +1,4 @@
 pub mod Storing
 pub mod Taking
 pub mod Appending
+pub mod HexTexts

@@ -1,3 +1,5 @@
 pub mod Streams
 pub mod Memory
 pub mod Files
+pub mod Texts
+pub mod Printing

@@ -1,5 +1,5 @@
-// A source over a reader and a sink over a writer. To contracts over sources and sinks they tell no content, since nothing vouches
-// for what is behind them.
+// A source over a reader and a sink over a writer. To contracts over sources and sinks they tell no content, since
+// nothing vouches for what is behind them.
 ghost use Rattle.std.specs.Prelude.{◌≡◌, ◌<◌, ◌≤◌, length, None, IfOk, IsErr, is_some};
 ghost use Rattle.std.specs.Result.{result_unwrap_or};
 ghost use Rattle.std.specs.Io.KnownBytes.{ReadConsumes, WriteAppends};
@@ -55,7 +55,8 @@ impl<R: Read> Source for StdSource<R> {
         ensures bound { IfOk result (λ count. count ≤ length buf.new) }
         ensures bytes { Changes (Gives result buf.new) None None }
         ensures cause { HasFaults self.old.faults self.new.faults result }
-        ensures asks { record { calls = self.new.asked; last = self.new.last } ≡ asked_for (result_unwrap_or result 0) (record { calls = self.old.asked; last = self.old.last }) }
+        ensures asks { record { calls = self.new.asked; last = self.new.last } ≡
+            asked_for (result_unwrap_or result 0) (record { calls = self.old.asked; last = self.old.last }) }
         // What the reader says of its bytes is handed on.
         ensures passes { ReadConsumes (R.remaining self.old.reader) (R.remaining self.new.reader) result buf.new }
     {

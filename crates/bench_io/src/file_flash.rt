@@ -29,7 +29,13 @@ impl<T: Read + Write + Seek> Model for FileFlash<T> {
 
     ghost Value = { FileState };
 
-    ghost view = { λ flash. record { bytes = flash.bytes.items; faults = flash.faults; wear = flash.wear; fetched = flash.fetched } };
+    ghost view = { λ flash. record {
+      bytes = flash.bytes.items;
+      faults = flash.faults;
+      wear = flash.wear;
+      fetched =
+          flash.fetched;
+    } };
 
     ghost invariant = { λ flash. length flash.bytes.items < 2 ^ 32 };
 }
@@ -37,7 +43,12 @@ impl<T: Read + Write + Seek> Model for FileFlash<T> {
 impl<T: Read + Write + Seek + Drop> FileFlash<T> {
     /// A flash of the file's bytes, or of none where a flash has no such size. An error is the file's, or memory's.
     pub fn new(alloc: Global, mut file: T) -> io::Result<FileFlash<T>>
-        ensures counts { IfOk result (λ flash. flash ≡ record { bytes = flash.bytes; faults = 0; wear = 0; fetched = 0 }) }
+        ensures counts { IfOk result (λ flash. flash ≡ record {
+          bytes = flash.bytes;
+          faults = 0;
+          wear = 0;
+          fetched = 0;
+        }) }
         ensures size { IfOk result (λ flash. IsSized (length flash.bytes)) }
     {
         let size = flash_size(&mut file)?;

@@ -65,7 +65,8 @@ impl Sink for MemSink {
         ensures bound { IfOk result (λ count. count ≤ length bytes.now) }
         ensures bytes { Changes (Puts result bytes.now) (Some self.old.bytes) (Some self.new.bytes) }
         ensures cause { HasFaults self.old.calls.faults self.new.calls.faults result }
-        // It fails exactly at the calls of its list and where no room is left, and else appends all that there is room for.
+        // It fails exactly at the calls of its list and where no room is left, and else appends all that there is room
+        // for.
         ensures exact { is_err result ≡ ((self.old.room == 0) || is_next_failing self.old.calls) }
         ensures count { IfOk result (λ count. count ≡ min self.old.room (length bytes.now)) }
         ensures room { self.new.room ≡ self.old.room - result_unwrap_or result 0 }

@@ -27,7 +27,13 @@ impl Model for MemSource {
 
     ghost Value = { SourceState };
 
-    ghost view = { λ source. record { bytes = source.bytes.items; taken = source.taken; last = source.last; calls = source.calls } };
+    ghost view = { λ source. record {
+      bytes = source.bytes.items;
+      taken = source.taken;
+      last = source.last;
+      calls =
+          source.calls;
+    } };
 
     ghost invariant = { λ source. source.taken ≤ length source.bytes.items };
 }
@@ -37,7 +43,13 @@ impl MemSource {
 
     /// A source of these bytes. The calls whose numbers, from 1, are in `fail` fail.
     pub fn new(alloc: Global, bytes: &[u8], fail: &[u32]) -> Result<MemSource, AllocError>
-        ensures { IfOk result (λ source. source ≡ record { bytes = bytes.now; taken = 0; last = 0; calls = no_calls fail.now }) }
+        ensures { IfOk result (λ source. source ≡ record {
+          bytes = bytes.now;
+          taken = 0;
+          last = 0;
+          calls = no_calls
+              fail.now;
+        }) }
     {
         Ok(MemSource {
             bytes: bytes.to_vec(alloc)?,
@@ -65,13 +77,19 @@ impl Source for MemSource {
     fn next(&mut self, buf: &mut [u8]) -> Result<usize, Failed>
         requires { 0 < length buf.old }
         ensures bound { IfOk result (λ count. count ≤ length buf.new) }
-        ensures bytes { Changes (Gives result buf.new) (Some (drop self.old.taken self.old.bytes)) (Some (drop self.new.taken self.new.bytes)) }
+        ensures bytes { Changes (Gives result buf.new) (Some (drop self.old.taken self.old.bytes)) (Some
+            (drop self.new.taken self.new.bytes)) }
         ensures cause { HasFaults self.old.calls.faults self.new.calls.faults result }
         ensures asks { asks_of self.new ≡ asked_for (result_unwrap_or result 0) (asks_of self.old) }
         // It fails exactly at the calls of its list, and else gives all that the buffer has places for.
         ensures exact { is_err result ≡ is_next_failing self.old.calls }
         ensures count { IfOk result (λ count. count ≡ min (length self.old.bytes - self.old.taken) (length buf.old)) }
-        ensures state { self.new ≡ record self.old { taken = self.old.taken + result_unwrap_or result 0; last = result_unwrap_or result 0; calls = after_call (is_err result) self.old.calls } }
+        ensures state { self.new ≡ record self.old {
+          taken = self.old.taken + result_unwrap_or result 0;
+          last =
+              result_unwrap_or result 0;
+          calls = after_call (is_err result) self.old.calls;
+        } }
     {
         self.last = 0;
         if self.calls.fails(false) {

@@ -14,7 +14,7 @@ use Rattle.bench_wire.proofs.Extending.{extends-then, extends-grows, extends-nil
 use Rattle.ectool_lines.specs.Requests.{commands_of}
 use Rattle.ectool_lines.specs.Texts.{printed}
 use Rattle.ectool_lines.specs.Asking.{AsksEach, Hears}
-use Rattle.raw_lines.specs.Raw.{Raw}
+use Rattle.bus_lines.specs.Raw.{Raw}
 use Rattle.ecbench.specs.declared.run.Exit.{Exit}
 use Rattle.ecbench.specs.declared.run.Exit.TheVariants.{Done, BadWords, BadFlash, BadLine, SourceFault, SinkFault, NoMemory, ScriptTooLong}
 use Rattle.ecbench.specs.Lines.{Happens, Makes, deed_of, DoesDeed, WasCarried, HasHappened, HasMade}

@@ -21,7 +21,7 @@ use Rattle.ectool_lines.specs.Tools.{tool_of, IsInRange}
 use Rattle.ectool_lines.specs.Requests.{Asked, commands_of}
 use Rattle.ectool_lines.specs.Texts.{LineEnd, line_text, printed}
 use Rattle.ectool_lines.specs.Asking.{AsksEach}
-use Rattle.raw_lines.specs.Raw.{Raw, Waits, Writes, Reads, IsRaw}
+use Rattle.bus_lines.specs.Raw.{Raw, Waits, Writes, Reads, IsRaw}
 
 -- what a line wants: nothing, that commands are sent, that an event of the world happens, or that the host makes calls of
 -- its own

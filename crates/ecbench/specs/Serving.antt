@@ -8,14 +8,14 @@ use Rattle.flash_dev.specs.declared.hurt.Hurt.TheVariants.{Cut}
 use Rattle.ec_model.specs.declared.event.WorldEvent.{WorldEvent}
 use Rattle.ec_wire.specs.Calls.{WireView, with_spare}
 use Rattle.bench_wire.specs.Adding.{Adds, Extends, Happens as HappensNow}
-use Rattle.ectool_lines.specs.declared.sending.ToolErr.{ToolErr}
-use Rattle.ectool_lines.specs.declared.sending.ToolErr.TheVariants as tool_err
+use Rattle.bench_io.specs.declared.printing.PrintErr.{PrintErr}
+use Rattle.bench_io.specs.declared.printing.PrintErr.TheVariants as print_err
 use Rattle.ectool_lines.specs.declared.tool.Tool.{Tool}
 use Rattle.ectool_lines.specs.Tools.{IsInRange}
 use Rattle.ectool_lines.specs.Texts.{printed}
 use Rattle.ectool_lines.specs.Running.{Appends, AppendsFront, Carries}
-use Rattle.raw_lines.specs.Raw.{Raw}
-use Rattle.raw_lines.specs.Making.{MakesRaw}
+use Rattle.bus_lines.specs.Raw.{Raw}
+use Rattle.bus_lines.specs.Making.{MakesRaw}
 use Rattle.ecbench.specs.declared.run.Exit.{Exit}
 use Rattle.ecbench.specs.declared.run.Exit.TheVariants.{Done, BadLine, SinkFault, NoMemory, ScriptTooLong}
 use Rattle.line_reader.specs.Finding.{ReaderView}
@@ -105,9 +105,9 @@ exit_at TooLong number = Some (BadLine number why.TooLong)
 exit_at Full number = Some ScriptTooLong
 
 -- the exit that ends a script where a line's text was not printed whole
-abbrev pub exit_of : ToolErr → Exit
-exit_of tool_err.Sink = SinkFault
-exit_of tool_err.NoMemory = NoMemory
+abbrev pub exit_of : PrintErr → Exit
+exit_of print_err.Sink = SinkFault
+exit_of print_err.NoMemory = NoMemory
 
 -- an event of the world happened behind a line's mark
 pub record HappensMarked (number : ℕ) (happened : WorldEvent) (old new : WireView) : Type 0 where

@@ -1,4 +1,9 @@
 //! The bench: a Chromebook's embedded controller and its host in one process, driven by a script on standard input.
+//!
+//! It is the program, and all other crates stand below it. `run` has the contract that matters: what each exit says of
+//! the script, the printed bytes and the journal, and that the journal is a run of the controller from the flash as it
+//! came to the flash as it is handed back. `main` opens the streams and the flash, and tells people on standard error
+//! what went wrong, of which no clause speaks.
 #![tactic(auto)]
 
 mod marking;

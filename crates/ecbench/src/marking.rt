@@ -15,10 +15,7 @@ pub fn begin<F: FlashDev>(bench: &mut Bench<Lpc, F>, number: u32) -> Result<(), 
     ensures begins { BeginsLine result number (wire_view LpcKind bench.old) (wire_view LpcKind bench.new) }
     ensures room { OnOk result (1 ≤ bench.new.spare) }
 {
-    match bench.reserve(2) {
-        Ok(()) => {}
-        Err(_) => return Err(Exit::NoMemory),
-    }
+    bench.reserve(2)?;
     bench.mark(number);
     Ok(())
 }

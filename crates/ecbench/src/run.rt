@@ -6,19 +6,19 @@ ghost use Rattle.ec_wire.specs.Calls.{RoseBy, is_failed_entry};
 ghost use Rattle.ecbench.specs.Endings.{EndsAsSeen, EndsUndisturbed, EndsFollowed, RunsTo, KeepsRo, GuardsRun, NothingFailed};
 ghost use Rattle.ecbench.specs.Statuses.{exit_status};
 ghost use Rattle.ecbench.specs.Serving.{exit_of};
+ghost use Rattle.ecbench.specs.declared.run.Exit.TheVariants as exits;
 
 use crate::serving::drive;
 use crate::word::{Word, are_words};
-use bench_io::{Sink, Source};
+use bench_io::{PrintErr, Sink, Source};
 use bench_wire::Bench;
 use bus_lpc::Lpc;
 use ec_core::Ec;
 use ec_types::Why;
 use ec_wire::Journal;
-use ectool_lines::ToolErr;
 use flash_dev::{FlashDev, Geometry};
 use line_reader::LineReader;
-use std::alloc::Global;
+use std::alloc::{AllocError, Global};
 use thiserror::Error;
 
 /// How a run ended.
@@ -68,19 +68,27 @@ impl Exit {
     }
 }
 
-impl From<ToolErr> for Exit {
+impl From<AllocError> for Exit {
+    ghost from_gives = { λ refused exit. exit ≡ exits.NoMemory };
+
+    fn from(_refused: AllocError) -> Exit {
+        Exit::NoMemory
+    }
+}
+
+impl From<PrintErr> for Exit {
     ghost from_gives = { λ error exit. exit ≡ exit_of error };
 
-    fn from(error: ToolErr) -> Exit {
+    fn from(error: PrintErr) -> Exit {
         match error {
-            ToolErr::Sink => Exit::SinkFault,
-            ToolErr::NoMemory => Exit::NoMemory,
+            PrintErr::Sink => Exit::SinkFault,
+            PrintErr::NoMemory => Exit::NoMemory,
         }
     }
 }
 
-/// How a run ended, with the flash as the controller left it, the journal of all that happened, and the script's reader, which
-/// has the line that was read last.
+/// How a run ended, with the flash as the controller left it, the journal of all that happened, and the script's
+/// reader, which has the line that was read last.
 #[derive(Drop)]
 pub struct Ended<F> {
     pub exit: Exit,
@@ -89,8 +97,8 @@ pub struct Ended<F> {
     pub reader: LineReader,
 }
 
-/// Carries out the script of the source, line by line, on a controller with this flash, which is off at first and has its
-/// write-protect pin asserted. The words are one, which names the flash file.
+/// Carries out the script of the source, line by line, on a controller with this flash, which is off at first and has
+/// its write-protect pin asserted. The words are one, which names the flash file.
 pub fn run<F: FlashDev, S: Source, K: Sink>(
     alloc: Global,
     words: &[Word],
@@ -99,24 +107,31 @@ pub fn run<F: FlashDev, S: Source, K: Sink>(
     sink: &mut K,
 ) -> Ended<F>
     // What each exit says of the script, the printed bytes and the journal, as the host sees it.
-    ensures ends { EndsAsSeen result.exit words.now (F.seen flash).extent (S.left source.old) (S.left source.new) (K.written sink.old) (K.written sink.new) result.journal.entries }
+    ensures ends { EndsAsSeen result.exit words.now (F.seen flash).extent (S.left source.old) (S.left source.new)
+        (K.written sink.old) (K.written sink.new) result.journal.entries }
     // The journal is a run of the controller, from the flash as it came to the flash as it is handed back.
     ensures run { RunsTo result.journal.entries (F.seen flash).held (F.seen result.flash).held }
     // Guarded RO is handed back as it came, whatever failed, was torn or was sent.
     ensures guard { KeepsRo result.journal.entries (F.seen flash).held (F.seen result.flash).held }
-    // Once RO is guarded and while the pin stays asserted, it stays so, byte for byte, and each boot ends with RO running, locked
-    // where it was guarded: a law of the definitions, of the states that the run of this journal passes.
+    // Once RO is guarded and while the pin stays asserted, it stays so, byte for byte, and each boot ends with RO
+    // running, locked where it was guarded: a law of the definitions, of the states that the run of this journal
+    // passes.
     ensures guarded { GuardsRun result.journal.entries (F.seen flash).held }
     // At most as many entries failed as the flash counted faults, and at most as many were cut as it counted cuts.
-    ensures faults { RoseBy (count_by is_failed_entry result.journal.entries) (F.seen flash).faults (F.seen result.flash).faults }
-    ensures cuts { RoseBy (count_by is_cut_entry result.journal.entries) (F.seen flash).cuts (F.seen result.flash).cuts }
+    ensures faults { RoseBy (count_by is_failed_entry result.journal.entries) (F.seen flash).faults
+        (F.seen result.flash).faults }
+    ensures cuts { RoseBy (count_by is_cut_entry result.journal.entries) (F.seen flash).cuts
+        (F.seen result.flash).cuts }
     // Where nothing failed in the flash, and it tells its bytes: the same with each command handled and answered.
     ensures undisturbed { NothingFailed (F.seen flash) (F.seen result.flash) → IfSome (F.seen flash).held (λ bytes.
-        EndsUndisturbed bytes result.exit words.now (F.seen flash).extent (S.left source.old) (S.left source.new) (K.written sink.old) (K.written sink.new) result.journal.entries) }
-    // The same of each line by itself, whatever befell the controller before it: where nothing disturbs the line, its commands are
-    // handled and answered from the state that it finds; and a command that is not answered has an upset among its entries.
+        EndsUndisturbed bytes result.exit words.now (F.seen flash).extent (S.left source.old) (S.left source.new)
+        (K.written sink.old) (K.written sink.new) result.journal.entries) }
+    // The same of each line by itself, whatever befell the controller before it: where nothing disturbs the line, its
+    // commands are handled and answered from the state that it finds; and a command that is not answered has an upset
+    // among its entries.
     ensures followed { IfSome (F.seen flash).held (λ bytes.
-        EndsFollowed bytes result.exit words.now (F.seen flash).extent (S.left source.old) (S.left source.new) (K.written sink.old) (K.written sink.new) result.journal.entries) }
+        EndsFollowed bytes result.exit words.now (F.seen flash).extent (S.left source.old) (S.left source.new)
+        (K.written sink.old) (K.written sink.new) result.journal.entries) }
     // A flash is handed back as it came where the run did not begin.
     ensures bad_words { result.exit ≡ Exit.BadWords → result.flash ≡ flash }
     ensures bad_flash { result.exit ≡ Exit.BadFlash → result.flash ≡ flash }

@@ -12,7 +12,7 @@ ghost use Rattle.ecbench.specs.Serving.{fresh_reader, Drives, Serves, PowersOn, 
 use crate::marking::begin;
 use crate::raw::{serve_in, serve_out, serve_tick};
 use crate::run::Exit;
-use bench_io::{Sink, Source, put_all};
+use bench_io::{Sink, Source, print};
 use bench_wire::Bench;
 use bus_lpc::Lpc;
 use ec_model::WorldEvent;
@@ -36,7 +36,8 @@ pub fn drive<F: FlashDev, S: Source, K: Sink>(
 ) -> Exit
     requires off { bench.old.controller.on ≡ false }
     requires fresh { reader.old ≡ fresh_reader }
-    ensures drives { Drives result (wire_view LpcKind bench.old) (wire_view LpcKind bench.new) (S.left source.old) (S.left source.new) (K.written sink.old) (K.written sink.new) }
+    ensures drives { Drives result (wire_view LpcKind bench.old) (wire_view LpcKind bench.new) (S.left source.old)
+        (S.left source.new) (K.written sink.old) (K.written sink.new) }
     ensures source_fault { result ≡ Exit.SourceFault → Rose (S.faults source.old) (S.faults source.new) }
     ensures sink_fault { result ≡ Exit.SinkFault → Rose (K.faults sink.old) (K.faults sink.new) }
 {
@@ -65,7 +66,8 @@ fn serve<F: FlashDev, S: Source, K: Sink>(
     sink: &mut K,
 ) -> Exit
     requires { reader.old ≡ fresh_reader }
-    ensures serves { Serves result (wire_view LpcKind bench.old) (wire_view LpcKind bench.new) (S.left source.old) (S.left source.new) (K.written sink.old) (K.written sink.new) }
+    ensures serves { Serves result (wire_view LpcKind bench.old) (wire_view LpcKind bench.new) (S.left source.old)
+        (S.left source.new) (K.written sink.old) (K.written sink.new) }
     ensures source_fault { result ≡ Exit.SourceFault → Rose (S.faults source.old) (S.faults source.new) }
     ensures sink_fault { result ≡ Exit.SinkFault → Rose (K.faults sink.old) (K.faults sink.new) }
 {
@@ -118,7 +120,8 @@ fn serve_line<F: FlashDev, K: Sink>(
     buffers: &mut Buffers,
     sink: &mut K,
 ) -> Result<(), Exit>
-    ensures serves { ServesLine result number line.now (wire_view LpcKind bench.old) (wire_view LpcKind bench.new) (K.written sink.old) (K.written sink.new) }
+    ensures serves { ServesLine result number line.now (wire_view LpcKind bench.old) (wire_view LpcKind bench.new)
+        (K.written sink.old) (K.written sink.new) }
     ensures sink_fault { result ≡ Err Exit.SinkFault → Rose (K.faults sink.old) (K.faults sink.new) }
     ensures later { K.faults sink.old ≤ K.faults sink.new }
 {
@@ -161,7 +164,8 @@ fn serve_tool<F: FlashDev, K: Sink>(
     sink: &mut K,
 ) -> Result<(), Exit>
     requires { line_of line.now ≡ Ok Line.Tool }
-    ensures serves { ServesLine result number line.now (wire_view LpcKind bench.old) (wire_view LpcKind bench.new) (K.written sink.old) (K.written sink.new) }
+    ensures serves { ServesLine result number line.now (wire_view LpcKind bench.old) (wire_view LpcKind bench.new)
+        (K.written sink.old) (K.written sink.new) }
     ensures sink_fault { result ≡ Err Exit.SinkFault → Rose (K.faults sink.old) (K.faults sink.new) }
     ensures later { K.faults sink.old ≤ K.faults sink.new }
 {
@@ -182,14 +186,13 @@ fn serve_event<F: FlashDev, K: Sink>(
     sink: &mut K,
 ) -> Result<(), Exit>
     requires { IsFalse (is_byte happened) }
-    ensures serves { ServesEvent result number happened (wire_view LpcKind bench.old) (wire_view LpcKind bench.new) (K.written sink.old) (K.written sink.new) }
+    ensures serves { ServesEvent result number happened (wire_view LpcKind bench.old) (wire_view LpcKind bench.new)
+        (K.written sink.old) (K.written sink.new) }
     ensures sink_fault { result ≡ Err Exit.SinkFault → Rose (K.faults sink.old) (K.faults sink.new) }
     ensures later { K.faults sink.old ≤ K.faults sink.new }
 {
     begin(bench, number)?;
     bench.world(happened);
-    match put_all(sink, b"ok\n") {
-        Ok(()) => Ok(()),
-        Err(Failed) => Err(Exit::SinkFault),
-    }
+    print(sink, b"ok\n")?;
+    Ok(())
 }

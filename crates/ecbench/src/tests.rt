@@ -162,7 +162,7 @@ fn a_long_read_is_put_together(rt: HostRuntime) -> Result<(), Fail> {
 }
 
 #[test]
-fn raw_lines_reach_the_bus(rt: HostRuntime) -> Result<(), Fail> {
+fn bus_lines_reach_the_bus(rt: HostRuntime) -> Result<(), Fail> {
     // Eight blocks are erased; one is, while GET_COMMS_STATUS is put by hand; so is HELLO; and ports that nothing answers.
     for (script, text) in [
         (
@@ -384,10 +384,7 @@ fn the_place_of_a_fault_is_told(rt: HostRuntime) -> Result<(), Fail> {
             "line 2, word 3: `5000` is not a number from 0 to 4096",
         ),
         (b" pin up", "line 2, word 2: `up` is not on or off"),
-        (
-            b"tick\t1",
-            "line 2, byte 5: 0x09 is not printable ASCII",
-        ),
+        (b"tick\t1", "line 2, byte 5: 0x09 is not printable ASCII"),
         (
             b" flashread  0 ",
             "line 2: `flashread` has 1 words behind it, not 2",

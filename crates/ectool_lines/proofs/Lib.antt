@@ -2,4 +2,4 @@ pub mod SendLemmas
 pub mod WantLemmas
 pub mod AnswerLemmas
 pub mod ReplyLemmas
-pub mod HexTexts
+pub mod Padding

@@ -1,7 +1,6 @@
 -- The texts that lines print.
-use Rattle.std.specs.Prelude.{ℕ, ◌==◌, List, [], ◌∷◌, ◌++◌, length, take, drop, codes}
-use Rattle.std.specs.List.{position_or_len}
-use Rattle.std.specs.Int.{w32, to_be_bytes}
+use Rattle.std.specs.Prelude.{ℕ, List, [], ◌∷◌, ◌++◌, length, take, drop, codes}
+pub use Rattle.bench_io.specs.Texts.{printed, hex_text, field_text}
 use Rattle.ec_types.specs.LittleEndian.{u16_at, u32_at}
 use Rattle.std.specs.Fmt.{decimal}
 use Rattle.hex.specs.Hex.{encode_lower}
@@ -9,10 +8,6 @@ use Rattle.ec_types.specs.Tables.{status_name}
 use Rattle.host_transport.specs.Once.{Ending, Said, Bad, Silent, NoPower}
 use Rattle.ectool_lines.specs.declared.tool.Tool.{Tool}
 use Rattle.ectool_lines.specs.declared.tool.Tool.TheVariants.{Hello, ChipInfo, CmdVersions, ProtoInfo, FlashInfo, RegionInfo, FlashRead, FlashWrite, FlashProtect, Test, Resend}
-
--- a printed line: its text and a line feed
-abbrev pub printed : List ℕ → List ℕ
-printed text = text ++ 10 ∷ []
 
 -- a status by its number and its name
 abbrev pub status_text : ℕ → List ℕ
@@ -24,14 +19,6 @@ refusal_text (Said status body) = status_text status
 refusal_text Bad = codes "EC did not answer"
 refusal_text Silent = codes "EC did not answer"
 refusal_text NoPower = codes "EC has no power"
-
--- a number as `0x` and eight hexadecimal digits
-abbrev pub hex_text : ℕ → List ℕ
-hex_text number = codes "0x" ++ encode_lower (to_be_bytes w32 number)
-
--- a text with zeros behind it: its bytes before the first zero, or all of them
-abbrev pub field_text : List ℕ → List ℕ
-field_text bytes = take (position_or_len (λ byte. byte == 0) bytes) bytes
 
 -- GET_CHIP_INFO's reply
 abbrev pub chip_text : (vendor name revision : List ℕ) → List ℕ

@@ -108,7 +108,13 @@ fn question(number: u16, version: u8, want: usize) -> Command
 // GET_CMD_VERSIONS.
 fn cmd_versions(command: u16, body: &mut Packet) -> Command
     requires { body.old ≡ [] }
-    ensures { asked_of result body.new ≡ record { command = 0x08; version = 1; body = cmd_versions_ask1 command; want = 4 } }
+    ensures { asked_of result body.new ≡ record {
+      command = 0x08;
+      version = 1;
+      body = cmd_versions_ask1 command;
+      want
+          = 4;
+    } }
 {
     CmdVersionsAsk1 { command }.write(body);
     Command {
@@ -133,7 +139,13 @@ fn region_number(region: Region) -> u32
 // FLASH_REGION_INFO.
 fn region_info(region: Region, body: &mut Packet) -> Command
     requires { body.old ≡ [] }
-    ensures { asked_of result body.new ≡ record { command = 0x16; version = 1; body = region_info_ask (region_number region); want = 8 } }
+    ensures { asked_of result body.new ≡ record {
+      command = 0x16;
+      version = 1;
+      body = region_info_ask
+          (region_number region);
+      want = 8;
+    } }
 {
     let ask = RegionInfoAsk {
         region: region_number(region),
@@ -149,7 +161,12 @@ fn region_info(region: Region, body: &mut Packet) -> Command
 // FLASH_PROTECT.
 fn flash_protect(mask: u32, flags: u32, body: &mut Packet) -> Command
     requires { body.old ≡ [] }
-    ensures { asked_of result body.new ≡ record { command = 0x15; version = 1; body = flash_protect_ask mask flags; want = 12 } }
+    ensures { asked_of result body.new ≡ record {
+      command = 0x15;
+      version = 1;
+      body = flash_protect_ask mask flags;
+      want = 12;
+    } }
 {
     FlashProtectAsk { mask, flags }.write(body);
     Command {

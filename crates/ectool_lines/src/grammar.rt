@@ -13,9 +13,9 @@ use script_words::{
     three_words, two_or, two_words,
 };
 
-/// What a line without its line feed says, or the first thing that is wrong with it: its length, its bytes, its first word,
-/// how many words there are behind it, and at last the first of these from the left that is not what it should be. A line
-/// that does nothing, as one that begins with `#`, is no such line: its first word is at fault.
+/// What a line without its line feed says, or the first thing that is wrong with it: its length, its bytes, its first
+/// word, how many words there are behind it, and at last the first of these from the left that is not what it should
+/// be. A line that does nothing, as one that begins with `#`, is no such line: its first word is at fault.
 pub fn parse(line: &[u8]) -> Result<Tool<'_>, Fault>
     ensures tool { by_kind result ≡ tool_of line.now }
     ensures within { IfOk result IsInRange }
@@ -113,7 +113,8 @@ fn region_info(words: &[u8]) -> Result<Tool<'_>, Fault>
 }
 
 fn flash_read(words: &[u8]) -> Result<Tool<'_>, Fault>
-    ensures tool { by_kind result ≡ with_two (number_to 4294967295) (number_to 4096) Tool.FlashRead (words_of words.now) }
+    ensures tool { by_kind result ≡ with_two (number_to 4294967295) (number_to 4096) Tool.FlashRead
+        (words_of words.now) }
     ensures within { IfOk result IsInRange }
 {
     let (at, size) = two_words(words)?;
@@ -188,7 +189,8 @@ fn protect_bits(form: &[u8], words: &[u8]) -> Result<Tool<'static>, Fault>
 }
 
 fn test(words: &[u8]) -> Result<Tool<'_>, Fault>
-    ensures tool { by_kind result ≡ with_three (number_to 4294967295) (number_to 32) (hex_to 32) Tool.Test (words_of words.now) }
+    ensures tool { by_kind result ≡ with_three (number_to 4294967295) (number_to 32) (hex_to 32) Tool.Test
+        (words_of words.now) }
     ensures within { IfOk result IsInRange }
 {
     let (ec_result, ret_len, bytes) = three_words(words)?;

@@ -1,4 +1,9 @@
-//! The lines of a script that send commands to the controller: what each of them says, and what is wrong with it.
+//! The lines of a script that send commands to the controller: what each of them says, what is wrong with it, and how
+//! it is carried out and printed.
+//!
+//! Below stand `script_words`, for what a line is made of, and `host_transport`, which sends one command; above stands
+//! `ecbench`. What matters: `parse` reads a line as the grammar `tool_of` has it, and `run` sends just the line's
+//! commands, up to the first that is no success, and prints the text that belongs to how they ended.
 #![tactic(auto)]
 
 mod commands;
@@ -9,8 +14,7 @@ mod text;
 mod tool;
 
 pub use grammar::{parse, parse_checked};
-pub use sending::{Buffers, ToolErr, run};
-pub use text::LineText;
+pub use sending::{Buffers, run};
 pub use tool::Tool;
 
 #[cfg(test)]

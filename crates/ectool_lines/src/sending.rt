@@ -13,27 +13,19 @@ ghost use Rattle.ectool_lines.specs.Running.{RunsTool};
 
 use crate::Tool;
 use crate::commands::Command;
-use crate::text::LineText;
-use bench_io::{Sink, put_all};
+use crate::replies::add_reply;
+use crate::text::{close, refuse};
+use bench_io::{LineText, PrintErr, Sink, print};
 use ec_packet::Packet;
 use ec_types::limit_of;
 use ec_wire::Wire;
-use flash_dev::Failed;
 use host_transport::{Once, once};
 
 /// The room that a line's commands have on a wire.
 const ROOM: usize = 200_000;
 
-/// Why a line's text was not printed whole.
-#[derive(Clone, Copy, Debug, PartialEq, Eq)]
-pub enum ToolErr {
-    /// The sink failed; the line was carried out.
-    Sink,
-    /// Memory was refused; nothing was sent.
-    NoMemory,
-}
-
-/// What lines are carried out in: the text of the one at hand, and the packets of its commands. What they had is no matter.
+/// What lines are carried out in: the text of the one at hand, and the packets of its commands. What they had is no
+/// matter.
 #[derive(Drop)]
 pub struct Buffers {
     pub text: LineText,
@@ -61,22 +53,16 @@ pub fn run<W: Wire, K: Sink>(
     tool: &Tool<'_>,
     buffers: &mut Buffers,
     sink: &mut K,
-) -> Result<(), ToolErr>
+) -> Result<(), PrintErr>
     requires bus { (W.view w.old).bus ≡ LpcKind }
     requires within { IsInRange tool.now }
     ensures runs { RunsTool result tool.now (W.view w.old) (W.view w.new) (K.written sink.old) (K.written sink.new) }
-    ensures cause { result ≡ Err ToolErr.Sink → Rose (K.faults sink.old) (K.faults sink.new) }
+    ensures cause { result ≡ Err PrintErr.Sink → Rose (K.faults sink.old) (K.faults sink.new) }
     ensures later { K.faults sink.old ≤ K.faults sink.new }
 {
-    match w.reserve(ROOM) {
-        Ok(()) => {}
-        Err(_) => return Err(ToolErr::NoMemory),
-    }
+    w.reserve(ROOM)?;
     carry_out(w, tool, buffers);
-    match put_all(sink, buffers.text.as_bytes()) {
-        Ok(()) => Ok(()),
-        Err(Failed) => Err(ToolErr::Sink),
-    }
+    print(sink, buffers.text.as_bytes())
 }
 
 // Sends the line's commands, up to the first that is not answered with success, and leaves the line's text.
@@ -92,12 +78,12 @@ fn carry_out<W: Wire>(w: &mut W, tool: &Tool<'_>, buffers: &mut Buffers)
         let command = tool.command(limit, k, &mut buffers.body);
         let ended = send(w, command, buffers);
         if !ended.is_success() {
-            buffers.text.refuse(ended);
+            refuse(&mut buffers.text, ended);
             return;
         }
-        buffers.text.add_reply(tool, behind_header(&buffers.reply));
+        add_reply(&mut buffers.text, tool, behind_header(&buffers.reply));
     }
-    buffers.text.close(tool);
+    close(&mut buffers.text, tool);
 }
 
 // Sends a command once, whose body stands in its buffer.
@@ -106,7 +92,8 @@ fn send<W: Wire>(w: &mut W, command: Command, buffers: &mut Buffers) -> Once
     requires room { 1500 ≤ (W.view w.old).spare }
     requires short { 8 + length buffers.old.body ≤ 256 }
     requires plain { IsPlain (packet_of (asked_of command buffers.old.body)) }
-    ensures asks { AsksOnce (packet_of (asked_of command buffers.old.body)) command.want (ending_of result (drop 8 buffers.new.reply)) (W.view w.old) (W.view w.new) }
+    ensures asks { AsksOnce (packet_of (asked_of command buffers.old.body)) command.want (ending_of result
+        (drop 8 buffers.new.reply)) (W.view w.old) (W.view w.new) }
     ensures want { result ≡ Once.Status 0 → length buffers.new.reply ≡ 8 + command.want }
     ensures room { (W.view w.old).spare ≤ (W.view w.new).spare + 531 }
     ensures text { buffers.new.text ≡ buffers.old.text }

@@ -1,210 +1,73 @@
-// The texts that lines print.
-ghost use Rattle.std.specs.Prelude.{◌≡◌, ◌≤◌, ◌+◌, ◌*◌, ◌++◌, ◌∷◌, ◌==◌, [], ℕ, List, length, codes};
+// How the text of a line ends.
+ghost use Rattle.std.specs.Prelude.{◌≡◌, ◌≤◌, ◌+◌, ◌++◌, ℕ, List, length, codes};
 ghost use Rattle.std.specs.Fmt.{decimal};
-ghost use Rattle.std.specs.List.{position_or_len};
-ghost use Rattle.hex.specs.Hex.{encode_lower};
 ghost use Rattle.host_transport.specs.Ends.{ending_of};
-ghost use Rattle.ectool_lines.specs.Texts.{printed, refusal_text, status_text, closing_text, hex_text, field_text};
+ghost use Rattle.ectool_lines.specs.Texts.{printed, refusal_text, status_text, closing_text};
 
 use crate::Tool;
-use arrayvec::ArrayVec;
+use bench_io::LineText;
 use ec_types::Status;
 use host_transport::Once;
 use itoa::Buffer;
-use std::marker::Model;
 
-/// The text of one line, in a buffer that holds the longest one.
-#[derive(Drop)]
-pub struct LineText {
-    bytes: ArrayVec<u8, 12288>,
-}
-
-impl Model for LineText {
-    ghost use Rattle.std.specs.Prelude.{◌≤◌, List, ℕ, length};
-
-    ghost Value = { List ℕ };
-
-    ghost view = { λ text. text.bytes.items };
-
-    ghost invariant = { λ text. length text.bytes.items ≤ 12288 };
-}
-
-impl LineText {
-    /// No text.
-    pub fn new() -> LineText
-        ensures { result ≡ [] }
-    {
-        LineText {
-            bytes: ArrayVec::new(),
-        }
-    }
-
-    /// Its bytes.
-    pub fn as_bytes(&self) -> &[u8]
-        ensures { result.now ≡ self.now }
-    {
-        self.bytes.as_slice()
-    }
-
-    /// Takes all of it out.
-    pub fn clear(&mut self)
-        ensures { self.new ≡ [] }
-    {
-        self.bytes.clear();
-    }
-
-    /// Appends bytes that fit.
-    pub fn append(&mut self, bytes: &[u8])
-        requires { length self.old + length bytes.now ≤ 12288 }
-        ensures { self.new ≡ self.old ++ bytes.now }
-    {
-        match self.bytes.try_extend_from_slice(bytes) {
-            Ok(()) => {}
-            Err(_) => unreachable!(),
-        }
-    }
-
-    /// Appends a byte as two lower case hexadecimal digits.
-    pub fn append_byte(&mut self, byte: u8)
-        requires { length self.old + 2 ≤ 12288 }
-        ensures text { self.new ≡ self.old ++ encode_lower (byte ∷ []) }
-        ensures long { length self.new ≡ length self.old + 2 }
-    {
-        let mut digits = [0; 2];
-        match hex::encode_to_slice(&[byte], &mut digits) {
-            Ok(()) => {}
-            Err(_) => unreachable!(),
-        }
-        self.append(&digits);
-    }
-
-    /// Appends bytes as two lower case hexadecimal digits each.
-    pub(crate) fn append_hex(&mut self, bytes: &[u8])
-        requires few { length bytes.now ≤ 544 }
-        requires fits { length self.old + 2 * length bytes.now ≤ 12288 }
-        ensures text { self.new ≡ self.old ++ encode_lower bytes.now }
-        ensures long { length self.new ≡ length self.old + 2 * length bytes.now }
-    {
-        for byte in bytes {
-            self.append_byte(*byte);
-        }
-    }
-
-    /// Appends a label and a decimal number behind it.
-    pub(crate) fn append_number(&mut self, label: &[u8], number: u32)
-        requires short { length label.now ≤ 16 }
-        requires fits { length self.old ≤ 12000 }
-        ensures text { self.new ≡ self.old ++ (label.now ++ decimal number) }
-        ensures long { length self.new ≤ length self.old + 26 }
-    {
-        let mut digits = Buffer::new();
-        self.append(label);
-        self.append(digits.format(number).as_bytes());
-    }
-
-    /// Appends a label, `0x` and the eight hexadecimal digits of a number behind it.
-    pub(crate) fn append_mask(&mut self, label: &[u8], number: u32)
-        requires short { length label.now ≤ 16 }
-        requires fits { length self.old ≤ 12000 }
-        ensures text { self.new ≡ self.old ++ (label.now ++ hex_text number) }
-        ensures long { length self.new ≤ length self.old + 26 }
-    {
-        self.append(label);
-        self.append(b"0x");
-        self.append_hex(&number.to_be_bytes());
-    }
-
-    /// Appends a label and a text behind it that has zeros behind it.
-    pub(crate) fn append_field(&mut self, label: &[u8], field: &[u8; 32])
-        requires short { length label.now ≤ 16 }
-        requires fits { length self.old ≤ 12000 }
-        ensures text { self.new ≡ self.old ++ (label.now ++ field_text field.now) }
-        ensures long { length self.new ≤ length self.old + 48 }
-    {
-        self.append(label);
-        self.append(before_zero(field));
-    }
-
-    // A status by its number and its name.
-    fn append_status(&mut self, status: u16)
-        requires { length self.old ≡ 0 }
-        ensures text { self.new ≡ self.old ++ status_text status }
-        ensures short { length self.new ≤ 64 }
-    {
-        let mut digits = Buffer::new();
-        self.append(b"EC result ");
-        self.append(digits.format(status).as_bytes());
-        self.append(b" (");
-        self.append(Status(status).name().as_bytes());
-        self.append(b")");
-    }
-
-    /// Tells, in place of what was there, that a command was no success.
-    pub(crate) fn refuse(&mut self, ended: Once)
-        ensures { (body : List ℕ) → self.new ≡ printed (refusal_text (ending_of ended body)) }
-    {
-        self.clear();
-        match ended {
-            Once::Status(status) => self.append_status(status),
-            Once::Bad | Once::Silent => self.append(b"EC did not answer"),
-            Once::NoPower => self.append(b"EC has no power"),
-        }
-        self.append(b"\n");
-    }
-
-    // How many bytes were written.
-    fn append_written(&mut self, count: usize)
-        requires { length self.old ≤ 12000 }
-        ensures text { self.new ≡ self.old ++ (codes "wrote " ++ decimal count ++ codes " bytes") }
-        ensures short { length self.new ≤ length self.old + 64 }
-    {
-        let mut digits = Buffer::new();
-        self.append(b"wrote ");
-        self.append(digits.format(count).as_bytes());
-        self.append(b" bytes");
-    }
-
-    // How the text of a line ends that was a success, but for its line feed.
-    fn append_closing(&mut self, tool: &Tool<'_>)
-        requires { length self.old ≤ 12000 }
-        ensures text { self.new ≡ self.old ++ closing_text tool.now }
-        ensures short { length self.new ≤ length self.old + 64 }
-    {
-        match tool {
-            Tool::Hello => self.append(b"EC says hello!"),
-            Tool::FlashWrite { at: _, bytes } => self.append_written(bytes.len()),
-            Tool::Resend => self.append(b"ok"),
-            _ => {}
-        }
-    }
-
-    /// Ends the text of a line that was a success.
-    pub(crate) fn close(&mut self, tool: &Tool<'_>)
-        requires { length self.old ≤ 12000 }
-        ensures { self.new ≡ printed (self.old ++ closing_text tool.now) }
-    {
-        self.append_closing(tool);
-        self.append(b"\n");
-    }
-}
-
-// The bytes before the first zero, or all of them.
-fn before_zero(bytes: &[u8]) -> &[u8]
-    ensures text { result.now ≡ field_text bytes.now }
-    ensures short { length result.now ≤ length bytes.now }
+// A status by its number and its name.
+fn append_status(out: &mut LineText, status: u16)
+    requires { length out.old ≡ 0 }
+    ensures text { out.new ≡ out.old ++ status_text status }
+    ensures short { length out.new ≤ 64 }
 {
-    &bytes[..text_len(bytes)]
+    let mut digits = Buffer::new();
+    out.append(b"EC result ");
+    out.append(digits.format(status).as_bytes());
+    out.append(b" (");
+    out.append(Status(status).name().as_bytes());
+    out.append(b")");
 }
 
-// How many bytes stand before the first zero.
-fn text_len(bytes: &[u8]) -> usize
-    ensures before { result ≡ position_or_len (λ byte. byte == 0) bytes.now }
-    ensures within { result ≤ length bytes.now }
+/// Tells, in place of what was there, that a command was no success.
+pub(crate) fn refuse(out: &mut LineText, ended: Once)
+    ensures { (body : List ℕ) → out.new ≡ printed (refusal_text (ending_of ended body)) }
 {
-    for (i, byte) in bytes.iter().enumerate() {
-        if *byte == 0 {
-            return i;
-        }
+    out.clear();
+    match ended {
+        Once::Status(status) => append_status(out, status),
+        Once::Bad | Once::Silent => out.append(b"EC did not answer"),
+        Once::NoPower => out.append(b"EC has no power"),
     }
-    bytes.len()
+    out.append(b"\n");
+}
+
+// How many bytes were written.
+fn append_written(out: &mut LineText, count: usize)
+    requires { length out.old ≤ 12000 }
+    ensures text { out.new ≡ out.old ++ (codes "wrote " ++ decimal count ++ codes " bytes") }
+    ensures short { length out.new ≤ length out.old + 64 }
+{
+    let mut digits = Buffer::new();
+    out.append(b"wrote ");
+    out.append(digits.format(count).as_bytes());
+    out.append(b" bytes");
+}
+
+// How the text of a line ends that was a success, but for its line feed.
+fn append_closing(out: &mut LineText, tool: &Tool<'_>)
+    requires { length out.old ≤ 12000 }
+    ensures text { out.new ≡ out.old ++ closing_text tool.now }
+    ensures short { length out.new ≤ length out.old + 64 }
+{
+    match tool {
+        Tool::Hello => out.append(b"EC says hello!"),
+        Tool::FlashWrite { at: _, bytes } => append_written(out, bytes.len()),
+        Tool::Resend => out.append(b"ok"),
+        _ => {}
+    }
+}
+
+/// Ends the text of a line that was a success.
+pub(crate) fn close(out: &mut LineText, tool: &Tool<'_>)
+    requires { length out.old ≤ 12000 }
+    ensures { out.new ≡ printed (out.old ++ closing_text tool.now) }
+{
+    append_closing(out, tool);
+    out.append(b"\n");
 }

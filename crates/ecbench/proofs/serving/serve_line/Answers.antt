@@ -6,7 +6,7 @@ use Rattle.script_words.specs.Faults.{by_kind}
 use Rattle.script_lines.specs.declared.line.Line.{Line}
 use Rattle.script_lines.specs.declared.line.Line.TheVariants as line
 use Rattle.script_lines.specs.Lines.{line_of}
-use Rattle.raw_lines.specs.Raw.{Waits, Writes, Reads}
+use Rattle.bus_lines.specs.Raw.{Waits, Writes, Reads}
 use Rattle.ecbench.proofs.Adding.{event-serves, raw-serves}
 use Rattle.ecbench.proofs.EventLemmas.{deed-read}
 use Rattle.ecbench.proofs.serving.serve_line.Goals as goal

@@ -1,4 +1,4 @@
-use Rattle.ectool_lines.proofs.HexTexts.{decoded-padded}
+use Rattle.ectool_lines.proofs.Padding.{decoded-padded}
 use Rattle.ectool_lines.proofs.commands.padded.Goals as goal
 
 pub returns : goal.returns

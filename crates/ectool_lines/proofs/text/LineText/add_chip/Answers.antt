@@ -1,7 +1,0 @@
-use Rattle.std.proofs.Common.{ap, ◌∙◌, sym, ◌++◌, ℕ, List}
-use Rattle.ectool_lines.proofs.ReplyLemmas.{chip-read}
-use Rattle.ectool_lines.proofs.text.LineText.add_chip.Goals as goal
-
-pub returns-clause-text : goal.returns-clause-text
-returns-clause-text c =
-    c.chip.ensures.text ∙ ap (λ (text : List ℕ). c.args.self.now ++ text) (sym (chip-read c.args.reply.now c.in-Some.say.vendor c.in-Some.say.name c.in-Some.say.revision c.chip.ensures.vendor c.chip.ensures.name c.chip.ensures.revision c.in-Some.ensures.spelled))
