@@ -79,7 +79,15 @@ fn other_bytes_are_refused(rt: HostRuntime) {
     assert_eq!(rt; JumpData::decode(&[]), None);
     assert_eq!(rt; JumpData::decode(&PLAIN_BYTES[..31]), None);
     assert_eq!(rt; JumpData::decode(&FOREIGN_BYTES), None);
-    for (place, byte) in [(0, 0x4B), (4, 4), (12, 15), (16, 0x58), (22, 2), (27, 2), (30, 1)] {
+    for (place, byte) in [
+        (0, 0x4B),
+        (4, 4),
+        (12, 15),
+        (16, 0x58),
+        (22, 2),
+        (27, 2),
+        (30, 1),
+    ] {
         let mut bytes = PLAIN_BYTES;
         bytes[place] = byte;
         assert_eq!(rt; JumpData::decode(&bytes), None);
