@@ -26,10 +26,10 @@ pub fn flash_erase<R: Running>(state: &mut R, at: u32, count: u32, reply: &mut R
     let size = state.geometry().size();
     let live = state.live();
     match refused_erase(size, &live, at, count) {
-        Some(status) => reply.refuse(status),
+        Some(status) => reply.end_with(status),
         None => {
             state.start_erase(at / ERASE_UNIT, count / ERASE_UNIT);
-            reply.refuse(status::IN_PROGRESS);
+            reply.end_with(status::IN_PROGRESS);
         }
     }
 }
@@ -44,5 +44,5 @@ pub fn resend<R: Running>(state: &mut R, reply: &mut Reply)
     ensures short { length reply.new.body ≡ 0 }
 {
     let status = state.take_saved();
-    reply.refuse(status);
+    reply.end_with(status);
 }

@@ -89,7 +89,7 @@ fn cmd_versions(command: u16, reply: &mut Reply)
             reply.succeed();
             CmdVersionsSay { mask }.write(&mut reply.body);
         }
-        None => reply.refuse(status::INVALID_PARAMETER),
+        None => reply.end_with(status::INVALID_PARAMETER),
     }
 }
 
@@ -122,8 +122,8 @@ fn test(ask: TestAsk, reply: &mut Reply)
             reply.succeed();
             TestSay { bytes }.write(&mut reply.body);
         }
-        wanted if wanted <= HIGHEST_RESULT => reply.refuse(wanted as u16),
-        _ => reply.refuse(status::INVALID_PARAMETER),
+        wanted if wanted <= HIGHEST_RESULT => reply.end_with(wanted as u16),
+        _ => reply.end_with(status::INVALID_PARAMETER),
     }
 }
 
@@ -170,7 +170,7 @@ fn region_info(region: u32, geometry: Geometry, reply: &mut Reply)
             reply.succeed();
             RegionInfoSay { offset, size }.write(&mut reply.body);
         }
-        None => reply.refuse(status::INVALID_PARAMETER),
+        None => reply.end_with(status::INVALID_PARAMETER),
     }
 }
 

@@ -5,6 +5,7 @@ ghost use Rattle.command_table.specs.Leaves.{end_status};
 
 use ec_model::Hurt;
 use ec_packet::Packet;
+use ec_types::status;
 
 /// A reply, and what a flash call did while it was made.
 #[derive(Drop)]
@@ -22,14 +23,14 @@ impl Reply {
         ensures hurt { result.hurt ≡ Whole }
     {
         Reply {
-            status: 0,
+            status: status::SUCCESS,
             body: Packet::new(),
             hurt: Hurt::Whole,
         }
     }
 
-    /// A status with no body, where no flash call failed.
-    pub fn refuse(&mut self, status: u16)
+    /// A status alone, of a refusal or of work that goes on, where no flash call failed.
+    pub fn end_with(&mut self, status: u16)
         ensures status { self.new.status ≡ status }
         ensures body { self.new.body ≡ [] }
         ensures hurt { self.new.hurt ≡ Whole }
@@ -45,9 +46,9 @@ impl Reply {
         ensures body { self.new.body ≡ [] }
         ensures hurt { self.new.hurt ≡ hurt }
     {
-        self.refuse(match hurt {
-            Hurt::Whole => 0,
-            _ => 2,
+        self.end_with(match hurt {
+            Hurt::Whole => status::SUCCESS,
+            _ => status::ERROR,
         });
         self.hurt = hurt;
     }

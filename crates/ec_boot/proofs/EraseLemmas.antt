@@ -91,10 +91,11 @@ done-told T x job ctl after pin live idle pending change = by ctl.device.held af
   by (Some f) (Some g) here falls =
       let before : Core = core_at (run_of ctl pin live) f in
       let behind : Core = core_at (job_run (job_left job) (saved_after job live.saved) (run_of after pin live)) g in
-      let is : IsBlockErased {T = T} job ctl.device after.device before behind (Ok x) =
-      (ap (λ (flash : List ℕ). with_job (job_left job) (saved_after job live.saved) (record before { flash = flash })) here
-      ∙ ap (λ (core : Core). with_job (job_left job) (saved_after job live.saved) (record core { flash = erased job.next f })) (untouched (block_range job.next) before idle),
-      account-change (Erase job.next) ctl.device after.device (Ok x) f g change falls) in
+      let is : IsBlockErased {T = T} job ctl.device after.device before behind (Ok x) = (
+        ap (λ (flash : List ℕ). with_job (job_left job) (saved_after job live.saved) (record before { flash = flash })) here
+            ∙ ap (λ (core : Core). with_job (job_left job) (saved_after job live.saved) (record core { flash = erased job.next f })) (untouched (block_range job.next) before idle),
+        account-change (Erase job.next) ctl.device after.device (Ok x) f g change falls,
+      ) in
       subst (λ (e : Option EraseJob). IsTicked {T = T} e ctl.device after.device before behind (Ok x)) (sym pending) is
 
 pub failed-told : (T : Type 0) (error : DevErr) (job : EraseJob) (ctl after : CtlView) (pin : Bool) (live : Live) → live.hash ≡ Idle → live.erase ≡ Some job → IsChange {T = T} (Erase job.next) ctl.device after.device (Err error) →
@@ -108,8 +109,7 @@ failed-told T error job ctl after pin live idle pending change = by ctl.device.h
   by (Some f) (Some g) here falls =
       let before : Core = core_at (run_of ctl pin live) f in
       let behind : Core = core_at (job_run None 2 (run_of after pin live)) g in
-      let is : IsBlockErased {T = T} job ctl.device after.device before behind (Err error) =
-      (
+      let is : IsBlockErased {T = T} job ctl.device after.device before behind (Err error) = (
         record { stopped = Erase job.next; is_there = refl; torn = here },
         ap (λ (core : Core). with_job None 2 (record core { flash = g })) (untouched (block_range job.next) before idle),
         account-change {T = T} (Erase job.next) ctl.device after.device (Err error) f g change falls,

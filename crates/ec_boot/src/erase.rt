@@ -3,6 +3,7 @@ ghost use Rattle.std.specs.Prelude.{◌≡◌, ◌+◌, ◌<◌, ◌^◌};
 ghost use Rattle.ec_model.specs.Erasing.{job_left, saved_after};
 
 use ec_model::EraseJob;
+use ec_types::status;
 
 /// The erase that is left once its next block is done.
 pub fn left(job: EraseJob) -> Option<EraseJob>
@@ -23,5 +24,9 @@ pub fn left(job: EraseJob) -> Option<EraseJob>
 pub fn saved(job: EraseJob, saved: u16) -> u16
     ensures { result ≡ saved_after job saved }
 {
-    if job.left <= 1 { 0 } else { saved }
+    if job.left <= 1 {
+        status::SUCCESS
+    } else {
+        saved
+    }
 }

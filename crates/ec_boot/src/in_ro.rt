@@ -11,7 +11,7 @@ ghost use Rattle.ec_boot.specs.Guarding.{KeepsGuard, LowersGuard};
 use crate::erase::{left, saved};
 use crate::{Off, Running};
 use ec_model::{EraseJob, HashView, Live, ProtectView};
-use ec_types::{ImageCopy, ResetCause, flags_of};
+use ec_types::{ImageCopy, ResetCause, flags_of, status};
 use flash_ctl::{Ctl, CtlErr};
 use flash_dev::{DevErr, Failed, FlashDev, Geometry};
 use flash_protect::Protect;
@@ -57,7 +57,7 @@ impl<F: FlashDev> InRo<F> {
             jump_off: false,
             hash: HashView::Idle,
             erase: None,
-            saved: 9,
+            saved: status::UNAVAILABLE,
         };
         InRo { ctl, pin, live }
     }
@@ -150,11 +150,11 @@ impl<F: FlashDev> Running for InRo<F> {
             next: first,
             left: count,
         });
-        self.live.saved = 9;
+        self.live.saved = status::UNAVAILABLE;
     }
 
     fn take_saved(&mut self) -> u16 {
-        mem::replace(&mut self.live.saved, 9)
+        mem::replace(&mut self.live.saved, status::UNAVAILABLE)
     }
 
     fn tick(&mut self) -> Result<(), DevErr> {
@@ -169,7 +169,7 @@ impl<F: FlashDev> Running for InRo<F> {
                 }
                 Err(CtlErr::Device(error)) => {
                     self.live.erase = None;
-                    self.live.saved = 2;
+                    self.live.saved = status::ERROR;
                     Err(error)
                 }
                 // A pending erase has no locked block.

@@ -76,8 +76,7 @@ packet-refused kind bytes error hurt status body on read whole status_is body_is
       leaves None = tt
       leaves (Some f) =
           let core : Core = core_at on f in
-          let none = ap (λ (r : Result RequestView ℕ). operations_by core (admitted_from core r)) (read-err (framing bytes) error read) in
-          (
+          let none = ap (λ (r : Result RequestView ℕ). operations_by core (admitted_from core r)) (read-err (framing bytes) error read) in (
             ap (λ (r : Result RequestView ℕ). row_of core (packet_limit kind) (admitted_from core r)) (read-err (framing bytes) error read),
             subst (λ (operations : List Operation). AllBegun operations on.device on.device core core) (sym none) (account-same [] on.device on.device f f refl),
           )
@@ -116,22 +115,28 @@ replied-leaves Failed device changed before after bus answer lost bytes status b
       WorkBegun Failed (record { state = bus; answer = answer }) lost (Serve bytes) answer device changed before (table_of after (replied (response_packet status body) bus))
   by (inl read) = record {
     begun = 0;
-    leaves = inl (refl, record {
-      reads = reads-of (handled_reads before (packet_limit (kind_of bus)) bytes) (is_restart (handled before (packet_limit (kind_of bus)) bytes)) read.0;
-      leaves = ap (λ (c : Core). with_reply c bus answer status body) read.2.0 ∙ with-error before bus answer status body failed.status_is failed.body_is
-          ∙ unread-of before (record { state = bus; answer = answer }) lost (handled before (packet_limit (kind_of bus)) bytes) read.1;
-    });
+    leaves = inl (
+      refl,
+      record {
+        reads = reads-of (handled_reads before (packet_limit (kind_of bus)) bytes) (is_restart (handled before (packet_limit (kind_of bus)) bytes)) read.0;
+        leaves = ap (λ (c : Core). with_reply c bus answer status body) read.2.0 ∙ with-error before bus answer status body failed.status_is failed.body_is
+            ∙ unread-of before (record { state = bus; answer = answer }) lost (handled before (packet_limit (kind_of bus)) bytes) read.1;
+      },
+    );
     account = read.2.1;
   }
   by (inr stopped) = record {
     begun = suc stopped.place;
-    leaves = inr (record {
-      place = stopped.place;
-      flash = after.flash;
-      stops = stopped.stops;
-      leaves = ap (λ (c : Core). with_reply c bus answer status body) stopped.leaves
-          ∙ with-error (failed_core before after.flash (handled_operations before bytes) stopped.place) bus answer status body failed.status_is failed.body_is;
-    }, refl);
+    leaves = inr (
+      record {
+        place = stopped.place;
+        flash = after.flash;
+        stops = stopped.stops;
+        leaves = ap (λ (c : Core). with_reply c bus answer status body) stopped.leaves
+            ∙ with-error (failed_core before after.flash (handled_operations before bytes) stopped.place) bus answer status body failed.status_is failed.body_is;
+      },
+      refl,
+    );
     account = stopped.account;
   }
 
@@ -161,12 +166,15 @@ lost-told old off bus kind answer lost bytes kind_is leaves = by old.device.held
   by (Some f) None told = told
   by (Some f) (Some g) told = record {
     begun = suc told.place;
-    leaves = (record {
-      place = told.place;
-      flash = g;
-      stops = told.stops;
-      leaves = ap (λ (k : BusKind). let a : AfterEvent = record { table = off_table g old.pin k; answer = lost } in a) (sym kind_is);
-    }, refl);
+    leaves = (
+      record {
+        place = told.place;
+        flash = g;
+        stops = told.stops;
+        leaves = ap (λ (k : BusKind). let a : AfterEvent = record { table = off_table g old.pin k; answer = lost } in a) (sym kind_is);
+      },
+      refl,
+    );
     account = told.account;
   }
 

@@ -59,7 +59,7 @@ fn rests<F: FlashDev>(on: &InRo<F>) -> bool
 }
 
 // What an event has a controller do that is on. A tick that has nothing to do leaves it where it is.
-fn take_up<B: Bus, F: FlashDev>(on: &InRo<F>, bus: &mut B, event: Event) -> Taken
+fn task_when_on<B: Bus, F: FlashDev>(on: &InRo<F>, bus: &mut B, event: Event) -> Taken
     requires { IsNone (due_now (B.state bus.old)) }
     ensures { IsTakenUp event (B.state bus.old) result.task (B.state bus.new) result.answer on.now }
 {
@@ -106,7 +106,7 @@ fn take_up<B: Bus, F: FlashDev>(on: &InRo<F>, bus: &mut B, event: Event) -> Take
 }
 
 // What an event has a controller do that is off.
-fn take_down(event: Event) -> Taken
+fn task_when_off(event: Event) -> Taken
     ensures { IsTakenDown event result.task result.answer }
 {
     let answer = answer_without_power(event);
@@ -131,8 +131,8 @@ pub fn take<B: Bus, F: FlashDev>(held: &Option<Held<F>>, bus: &mut B, event: Eve
     ensures { IsTaken event (B.state bus.old) result.task (B.state bus.new) result.answer held.now }
 {
     match held {
-        Some(Held::Up(on)) => take_up(on, bus, event),
-        Some(Held::Down { off: _, pin: _ }) => take_down(event),
+        Some(Held::Up(on)) => task_when_on(on, bus, event),
+        Some(Held::Down { off: _, pin: _ }) => task_when_off(event),
         None => unreachable!(),
     }
 }

@@ -175,8 +175,7 @@ set-done mask flags pin device changed old new (Some f) (Some g) size place bits
     let made : g ≡ operated_all (protect_operations (core_with old pin f) mask flags) f = began.1 ∙ ap (λ (list : List Operation). operated_all list f) (sym here) in
     let kept : stored g ≡ wish =
     stored-after size wish f g (sized size is.allowed) is.size_is (made ∙ ap (λ (list : List Operation). operated_all list f) (ops-are mask flags pin old f bits wish is.bits_are is.wish_is is.differ is.open_now)) in
-    let all : begun ≡ length (protect_operations (core_with old pin f) mask flags) = began.0 ∙ ap (λ (list : List Operation). length list) (sym here) in
-    (
+    let all : begun ≡ length (protect_operations (core_with old pin f) mask flags) = began.0 ∙ ap (λ (list : List Operation). length list) (sym here) in (
       record {
         done = done g kept ∙ ap (λ (flash : List ℕ). locks_set mask flags (core_with old pin flash)) made
             ∙ with-touched mask flags pin old f (protect_operations (core_with old pin f) mask flags);
@@ -213,8 +212,7 @@ set-idle mask flags pin device changed old new None (Some g) bits wish view same
 set-idle mask flags pin device changed old new (Some f) None bits wish view same held bits_are wish_is idle done shown = cc
 set-idle mask flags pin device changed old new (Some f) (Some g) bits wish view same held bits_are wish_is idle done shown =
     let none = idle-none mask flags pin old f bits wish bits_are wish_is idle in
-    let flash : f ≡ g = some f g held in
-    (
+    let flash : f ≡ g = some f g held in (
       record {
         done = subst (λ (xs : List ℕ). core_with new pin xs ≡ protected mask flags (core_with old pin f)) flash
             (done f bits_are ∙ ap (λ (list : List Operation). locks_set mask flags (after_operations list (core_with old pin f))) (sym none));
@@ -243,7 +241,7 @@ pub set-behind : (mask flags : ℕ) (pin : Bool) (device middle changed : Device
 set-behind mask flags pin device middle changed old new None None range result looked sets = tt
 set-behind mask flags pin device middle changed old new None (Some g) range result looked sets = sets
 set-behind mask flags pin device middle changed old new (Some f) None range result looked sets = sets
-set-behind mask flags pin device middle changed old new (Some f) (Some g) range (Ok view) looked sets = 
+set-behind mask flags pin device middle changed old new (Some f) (Some g) range (Ok view) looked sets =
     let operations : List Operation = protect_operations (core_with old pin f) mask flags in
     (sets.0, account-behind (length operations) Whole operations device middle changed f g looked.faults looked.own_cuts looked.begun looked.armed looked.wear sets.1)
 set-behind mask flags pin device middle changed old new (Some f) (Some g) None (Err error) looked sets =

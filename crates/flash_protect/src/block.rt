@@ -6,6 +6,7 @@ ghost use Rattle.flash_protect.specs.Setting.{IsPlaceIn};
 
 use byteorder::{ByteOrder, LittleEndian};
 use ec_model::AtBoot;
+use ec_types::protection;
 
 /// How many bytes of the block are read: its mark and its records.
 pub const READ_LENGTH: usize = 1024;
@@ -29,8 +30,8 @@ fn bits_in(word: u32) -> AtBoot
     ensures { result ≡ bits_of_word word }
 {
     AtBoot {
-        ro: word & 0x01 != 0,
-        all: word & 0x40 != 0,
+        ro: word & protection::RO_AT_BOOT != 0,
+        all: word & protection::ALL_AT_BOOT != 0,
     }
 }
 

@@ -14,6 +14,7 @@ ghost use Rattle.ec_model.specs.Appending.{AddsRecord};
 use crate::shown::{asked, same, shown, wanted};
 use crate::stored::{Found, begun_range, find, store};
 use ec_model::{AtBoot, ProtectView};
+use ec_types::protection;
 use flash_ctl::Ctl;
 use flash_dev::{DevErr, Failed, FlashDev};
 
@@ -98,7 +99,11 @@ impl Protect {
         ensures locks { Locks self.new ctl.new }
     {
         if pin && bits.ro {
-            self.grow(ctl, asked(0x02, mask, flags), asked(0x04, mask, flags));
+            self.grow(
+                ctl,
+                asked(protection::RO_NOW, mask, flags),
+                asked(protection::ALL_NOW, mask, flags),
+            );
         }
         shown(self, pin, bits)
     }

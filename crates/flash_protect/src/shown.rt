@@ -7,6 +7,7 @@ ghost use Rattle.flash_protect.specs.Setting.{core_with};
 
 use crate::Protect;
 use ec_model::{AtBoot, ProtectView};
+use ec_types::protection;
 
 // The mask where the test is true.
 fn bit(mask: u32, test: bool) -> u32
@@ -32,8 +33,8 @@ pub fn wanted(mask: u32, flags: u32, old: AtBoot) -> AtBoot
     ensures { result ≡ wanted mask flags old }
 {
     AtBoot {
-        ro: wished(0x01, mask, flags, old.ro),
-        all: wished(0x40, mask, flags, old.all),
+        ro: wished(protection::RO_AT_BOOT, mask, flags, old.ro),
+        all: wished(protection::ALL_AT_BOOT, mask, flags, old.all),
     }
 }
 
@@ -57,15 +58,15 @@ pub fn shown(protect: &Protect, pin: bool, bits: AtBoot) -> ProtectView
 {
     let can_lock = pin && bits.ro;
     ProtectView {
-        flags: bit(0x01, bits.ro)
-            + bit(0x02, protect.ro_now)
-            + bit(0x04, protect.all_now)
-            + bit(0x08, pin)
-            + bit(0x20, protect.bad)
-            + bit(0x40, bits.all),
-        valid: 0x6F,
-        writable: bit(0x41, !protect.ro_now)
-            + bit(0x02, can_lock && !protect.ro_now)
-            + bit(0x04, can_lock && !protect.all_now),
+        flags: bit(protection::RO_AT_BOOT, bits.ro)
+            + bit(protection::RO_NOW, protect.ro_now)
+            + bit(protection::ALL_NOW, protect.all_now)
+            + bit(protection::PIN_ASSERTED, pin)
+            + bit(protection::ERROR_INCONSISTENT, protect.bad)
+            + bit(protection::ALL_AT_BOOT, bits.all),
+        valid: protection::VALID_BITS,
+        writable: bit(protection::AT_BOOT_BITS, !protect.ro_now)
+            + bit(protection::RO_NOW, can_lock && !protect.ro_now)
+            + bit(protection::ALL_NOW, can_lock && !protect.all_now),
     }
 }

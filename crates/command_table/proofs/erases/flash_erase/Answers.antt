@@ -14,16 +14,16 @@ returns-in-Some-clause-leaves g c =
     let old : RunView = g.R.Running.run c.args.state.now in
     let request : List ℕ = flash_erase_ask c.args.at c.args.count in
     refused-told (λ core. erase_refusal core request) (λ core. Answered (record core { live = erasing (asked_job (asked_range request)) core.live }) 8 []) (λ core. false) (λ core. [])
-    old old.device.extent c.in-Some.status c.refuse.new.self.status c.refuse.new.self.hurt c.refuse.new.self.body c.geometry.ensures.whole
+    old old.device.extent c.in-Some.status c.end_with.new.self.status c.end_with.new.self.hurt c.end_with.new.self.body c.geometry.ensures.whole
     (λ core length_is live_is. c.in-Some.ensures.refusal core request (rw (c.size-size.ensures.size ∙ c.geometry.ensures.size) length_is) (rw c.live-live.ensures.live live_is) (erase-range c.args.at c.args.count (search rules) (search rules)))
     (λ core refused. refl)
-    c.refuse.ensures.hurt c.refuse.ensures.status c.refuse.ensures.body
+    c.end_with.ensures.hurt c.end_with.ensures.status c.end_with.ensures.body
 
 pub returns-in-None-clause-leaves : goal.returns-in-None-clause-leaves
 returns-in-None-clause-leaves g c =
     let old : RunView = g.R.Running.run c.args.state.now in
     let n : ℕ = c.size-size.result in
     let sized : IfSome old.device.held (λ (f : List ℕ). length f ≡ n) = rw (c.size-size.ensures.size ∙ c.geometry.ensures.size) c.geometry.ensures.whole in
-    started-told n old (g.R.Running.run c.start_erase.new.self) c.args.at c.args.count c.refuse-in-None.new.self.hurt c.refuse-in-None.new.self.status c.refuse-in-None.new.self.body (search rules) (search rules) sized
+    started-told n old (g.R.Running.run c.start_erase.new.self) c.args.at c.args.count c.end_with-in-None.new.self.hurt c.end_with-in-None.new.self.status c.end_with-in-None.new.self.body (search rules) (search rules) sized
     (λ core body length_is live_is range_is. c.in-None.ensures.refusal core body length_is (rw c.live-live.ensures.live live_is) range_is)
-    c.start_erase.ensures.started c.refuse-in-None.ensures.hurt c.refuse-in-None.ensures.status c.refuse-in-None.ensures.body
+    c.start_erase.ensures.started c.end_with-in-None.ensures.hurt c.end_with-in-None.ensures.status c.end_with-in-None.ensures.body

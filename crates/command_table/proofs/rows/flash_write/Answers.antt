@@ -15,10 +15,10 @@ returns-in-Some-clause-leaves g c =
     let request : List ℕ = flash_write_ask c.args.at c.args.bytes.now in
     let old : RunView = g.R.Running.run c.args.state.now in
     refused-told (λ core. write_refusal core c.args.version request) (λ core. done (written (u32_at 0 request) (drop 8 request) core)) (λ core. false) (λ core. write_operations core c.args.version request)
-    old old.device.extent c.in-Some.status c.refuse.new.self.status c.refuse.new.self.hurt c.refuse.new.self.body c.geometry.ensures.whole
+    old old.device.extent c.in-Some.status c.end_with.new.self.status c.end_with.new.self.hurt c.end_with.new.self.body c.geometry.ensures.whole
     (λ core length_is live_is. c.in-Some.ensures.refusal core request (rw (c.size-size.ensures.size ∙ c.geometry.ensures.size) length_is) (rw c.live-live.ensures.live live_is) (write-range c.args.at c.args.bytes.now (search rules) (omega (arith, c.requires))))
     (λ core refused. ap (λ (r : Option ℕ). if is_none r then pieces (u32_at 0 request) (drop 8 request) else []) refused)
-    c.refuse.ensures.hurt c.refuse.ensures.status c.refuse.ensures.body
+    c.end_with.ensures.hurt c.end_with.ensures.status c.end_with.ensures.body
 
 pub returns-in-None-clause-leaves : goal.returns-in-None-clause-leaves
 returns-in-None-clause-leaves g c =

@@ -4,7 +4,7 @@ use Rattle.ec_core.proofs.serve.answer_packet.Goals as goal
 
 pub returns-in-Err : goal.returns-in-Err
 returns-in-Err g c =
-    packet-refused c.args.kind c.args.bytes.now c.in-Err.status c.refuse.new.self.hurt c.refuse.new.self.status c.refuse.new.self.body c.args.on c.in-Err.ensures.framed c.refuse.ensures.hurt c.refuse.ensures.status c.refuse.ensures.body
+    packet-refused c.args.kind c.args.bytes.now c.in-Err.status c.end_with.new.self.hurt c.end_with.new.self.status c.end_with.new.self.body c.args.on c.in-Err.ensures.framed c.end_with.ensures.hurt c.end_with.ensures.status c.end_with.ensures.body
 
 pub returns-in-Ok : goal.returns-in-Ok
 returns-in-Ok g c =

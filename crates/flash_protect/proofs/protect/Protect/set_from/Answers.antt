@@ -50,8 +50,8 @@ pub returns-then-same-clause-told : goal.returns-then-same-clause-told
 returns-then-same-clause-told g c =
     let idle : (same_bits c.wanted-wish.result c.args.found.bits ≡ true) ⊎ (c.args.self.now.ro_now ≡ true) =
     elim c.then-same.branch [
-      then-same-via-then-same w ↦ inl (sym c.same.ensures ∙ w.if-same.true)
-    | then-same-via-else-same+then-self w ↦ inr w.if-self.true
+      | then-same-via-then-same w ↦ inl (sym c.same.ensures ∙ w.if-same.true)
+      | then-same-via-else-same+then-self w ↦ inr w.if-self.true
     ] in
     set-idle c.args.mask c.args.flags c.args.pin c.args.ctl.now.device c.finish.new.ctl.device c.args.self.now c.finish.new.self c.args.ctl.now.device.held c.finish.new.ctl.device.held c.args.found.bits
     c.wanted-wish.result c.finish.result c.finish.ensures.device (sym (ap (λ (d : DeviceView). d.held) c.finish.ensures.device)) c.requires.bits c.wanted-wish.ensures idle c.finish.ensures.done c.finish.ensures.shown
