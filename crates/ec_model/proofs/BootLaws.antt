@@ -1,7 +1,6 @@
 -- A boot ends with RO running, whatever fails in it.
 use Rattle.std.proofs.Common.{◌≡◌, refl, sym, ◌∙◌, subst, ℕ, true, false, inl, inr, List, [], length, Option, Some, None, Result, Ok, Err, slice_get}
 use Rattle.ec_types.specs.Tables.{packet_limit}
-use Rattle.ec_types.specs.declared.bus.BusKind.{BusKind}
 use Rattle.ec_model.specs.declared.event.Event.{Event}
 use Rattle.ec_model.specs.declared.event.Event.TheVariants.{Power as PowerEvent, Pin as PinEvent}
 use Rattle.flash_dev.specs.declared.hurt.Hurt.{Hurt}
@@ -19,7 +18,6 @@ use Rattle.ec_model.specs.WholeStep.{after_outcome}
 use Rattle.ec_model.specs.Step.{IsStep, after_unread, WorkLeaves, OffLeaves, EventLeavesBy}
 use Rattle.ec_model.specs.Guarded.{Guarded, boots, boots_by, is_boot, is_locked_if_on, keeps_pin, runs_ro, runs_ro_locked}
 use Rattle.ec_model.proofs.GuardStep.{step-kept}
-use Rattle.ec_model.proofs.StepLaws.{kind-step}
 
 -- a write is answered
 unless-answered : (refusal : Option ℕ) (core after : Core) (body : List ℕ) → is_restart (unless_refused refusal core (Answered after 0 body)) ≡ false
@@ -81,8 +79,7 @@ off-boots hurt old other after on leaves = cc
 event-boots : (hurt : Hurt) (old : Table) (event : Event) (power : Power) (after : After) → IsPowerValid (length old.flash) old.kind power → boots_by old event power ≡ true → EventLeavesBy hurt old event power after → runs_ro after.table.power ≡ true
 event-boots hurt old event Off after valid boot leaves = off-boots hurt old event after boot leaves
 event-boots hurt old event (On awake) after valid boot leaves =
-    work-boots hurt (core_of old awake) (bus_after awake.bus event) (lost_answer event) (work_on awake event) after
-    (subst (λ (kind : BusKind). is_boot (core_of old awake) (packet_limit kind) (work_on awake event) ≡ true) (sym (kind-step awake.bus event ∙ valid.bus_kind)) boot) leaves
+    work-boots hurt (core_of old awake) (bus_after awake.bus event) (lost_answer event) (work_on awake event) after boot leaves
 
 -- RO runs behind each boot
 pub boots-ro : (old : Table) (event : Event) (answer meant seen : ℕ) (hurt : Hurt) (new : Table) → Valid old → boots old event ≡ true → IsStep old (Step event answer meant seen hurt) new → runs_ro new.power ≡ true
