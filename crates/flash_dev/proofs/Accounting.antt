@@ -102,13 +102,17 @@ falls-then None Other Faulty Faulted begun hurt operation operations f g h weake
 falls-then (Some cut) Other Faulty Faulted begun hurt operation operations f g h weaker made first second =
     let not = first-not first.1 in
     let near = nearer cut first.0 not in
-    let more = subst (λ (c : Option ArmedCut). CutFalls Faulty c begun hurt operations g h) near second in
-    (omega (arith, more.0, first.0), λ falls.
-      let less : begun ≡ cut.left - 1 = omega (arith, falls.1) in
-      let fell = more.1 (some cut.left begun falls.1 not, less) in
-      let place : suc (cut.left - 1 - 1) ≡ cut.left - 1 = two cut.left begun falls.1 not in
-      (fell.0, subst (λ (k : ℕ). TornAt k cut.torn Faulted (operation ∷ operations) f h) place
-          (torn-then (cut.left - 1 - 1) cut.torn Faulty Faulted operation operations f g h weaker made fell.1))) where
+    let more = subst (λ (c : Option ArmedCut). CutFalls Faulty c begun hurt operations g h) near second in (
+      omega (arith, more.0, first.0),
+      λ falls.
+          let less : begun ≡ cut.left - 1 = omega (arith, falls.1) in
+          let fell = more.1 (some cut.left begun falls.1 not, less) in
+          let place : suc (cut.left - 1 - 1) ≡ cut.left - 1 = two cut.left begun falls.1 not in (
+            fell.0,
+            subst (λ (k : ℕ). TornAt k cut.torn Faulted (operation ∷ operations) f h) place
+                (torn-then (cut.left - 1 - 1) cut.torn Faulty Faulted operation operations f g h weaker made fell.1),
+          ),
+    ) where
       whole : Whole ≡ Cut → ⊥
       whole same = cc
 
@@ -156,11 +160,16 @@ account-then begun hurt operation operations old middle new f g h faults cuts ma
 first-falls : (cut : Option ArmedCut) (Faulty : Type 0) (hurt : Hurt) (operation : Operation) (operations : List Operation) (f g : List ℕ)
     → CutFalls Faulty cut 1 hurt (operation ∷ []) f g → CutFalls Faulty cut 1 hurt (operation ∷ operations) f g
 first-falls None Faulty hurt operation operations f g falls = tt
-first-falls (Some cut) Faulty hurt operation operations f g falls = (falls.0, λ fell.
-  let none : cut.left - 1 ≡ 0 = omega (arith, fell.1) in
-  let torn = falls.1 fell in
-  (torn.0, subst (λ (k : ℕ). TornAt k cut.torn Faulty (operation ∷ operations) f g) (sym none)
-      (first (subst (λ (k : ℕ). TornAt k cut.torn Faulty (operation ∷ []) f g) none torn.1)))) where
+first-falls (Some cut) Faulty hurt operation operations f g falls = (
+  falls.0,
+  λ fell.
+      let none : cut.left - 1 ≡ 0 = omega (arith, fell.1) in
+      let torn = falls.1 fell in (
+        torn.0,
+        subst (λ (k : ℕ). TornAt k cut.torn Faulty (operation ∷ operations) f g) (sym none)
+            (first (subst (λ (k : ℕ). TornAt k cut.torn Faulty (operation ∷ []) f g) none torn.1)),
+      ),
+) where
   first : TornAt 0 cut.torn Faulty (operation ∷ []) f g → TornAt 0 cut.torn Faulty (operation ∷ operations) f g
   first torn = record { stopped = torn.stopped; is_there = torn.is_there; leaves = torn.leaves }
 
