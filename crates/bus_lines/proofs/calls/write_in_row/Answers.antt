@@ -1,9 +1,12 @@
-use Rattle.std.proofs.Common.{sym, ap, ◌∙◌, ℕ, ◌+◌, ◌<◌, List, [], ◌∷◌, ◌++◌, length, take, length-take, arith}
+use Rattle.std.proofs.Common.{refl, sym, ap, ◌∙◌, ℕ, ◌+◌, ◌<◌, List, [], ◌∷◌, ◌++◌, length, take, length-take, arith}
 use Rattle.std.proofs.lemmas.List.{take_more, length_push}
 use Rattle.ec_model.specs.Heard.{port_writes}
-use Rattle.ec_wire.proofs.Growth.{made-then, made-as, made-access, made-room}
+use Rattle.ec_wire.proofs.Growth.{made-none, made-then, made-as, made-access, made-room}
 use Rattle.host_framing.proofs.PollLemmas.{port_writes-append}
 use Rattle.bus_lines.proofs.calls.write_in_row.Goals as goal
+
+pub loop-place-init : goal.loop-place-init
+loop-place-init g c = record { room = omega arith; gots = []; each = refl; made = made-none (g.W.Wire.view c.args.w.now) }
 
 pub loop-place-preserved : goal.loop-place-preserved
 loop-place-preserved g c =
