@@ -29,7 +29,10 @@ impl FlashDev for Dying {
       extent = 65536;
       faults = 0;
       cuts = flash.cuts;
+      own_cuts = flash.cuts;
       refusals = flash.cuts;
+      begun = flash.cuts;
+      armed = None;
       wear = 0;
       fetched = flash.fetched;
     } };
