@@ -19,10 +19,6 @@ use Rattle.ec_boot.specs.Ran.{IsStopped, ReadFailed}
 use Rattle.ec_boot.specs.Guarding.{KeepsGuard, LowersGuard}
 use Rattle.ec_boot.proofs.KeepLemmas.{stopped-keeps, guard-told}
 use Rattle.command_table.specs.Leaves.{FoundLeaves, HasReply}
-use Rattle.command_table.specs.After.{Finds, IsAnswered, run_of}
-use Rattle.command_table.specs.declared.table.Awake.{Awake}
-use Rattle.command_table.specs.declared.table.Awake.TheVariants.{Ro as AwakeRo}
-use Rattle.command_table.specs.declared.table.After.{After}
 
 -- what is admitted is spelled
 spelled-of : (core : Core) (request : RequestView) (found : Admitted) → admitted core request ≡ Ok found → is_spelled found.command found.version found.body ≡ true
@@ -61,8 +57,3 @@ lost-guard old new off pin same told = rw same (by old.device.held new.device.he
         guarded = λ guarded kind. let is = told.guarded guarded (fresh_bus kind) in record { pin = (guarded (fresh_bus kind)).pin; stored = is.stored; locked = refl };
         bytes = told.bytes;
       }
-
--- what an answer makes of the one image that runs is what it makes of the state
-pub answered-by : {F G : Type 0} (limit : ℕ) (finds : Finds) (hurt : Hurt) (status : ℕ) (body : List ℕ) (state : Awake G) (on : RunView) (after : After F) → state ≡ AwakeRo on
-    → IsAnswered limit finds hurt status body on after → IsAnswered limit finds hurt status body (run_of state) after
-answered-by limit finds hurt status body state on after is answered = rw is answered

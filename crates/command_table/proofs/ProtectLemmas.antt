@@ -1,6 +1,6 @@
 -- What FLASH_PROTECT leaves, where the flash tells its bytes.
-use Rattle.std.proofs.Common.{◌≡◌, refl, sym, ap, ◌∙◌, subst, ℕ, ◌<◌, ◌^◌, true, List, [], inl, inr, Option, Some, None, Result, Ok, Err}
-use Rattle.std.specs.Prelude.{option_map, ◌⊎◌}
+use Rattle.std.proofs.Common.{◌≡◌, refl, sym, ap, ◌∙◌, subst, ℕ, ◌<◌, ◌^◌, true, List, [], inl, inr, Option, Ok, Err}
+use Rattle.std.specs.Prelude.{◌⊎◌}
 use Rattle.ec_types.specs.LittleEndian.{u32_at, u32_bytes}
 use Rattle.ec_types.proofs.LittleEndianLaws.{u32_at-u32_bytes}
 use Rattle.flash_dev.specs.Told.{Changes}
@@ -12,20 +12,14 @@ use Rattle.ec_model.specs.declared.live.ProtectView.{ProtectView}
 use Rattle.ec_model.specs.Table.{Core}
 use Rattle.ec_model.specs.Bodies.{flash_protect_ask, flash_protect_say}
 use Rattle.ec_model.specs.Commands.{FlashProtect}
-use Rattle.ec_model.specs.Handle.{Admitted, admitted, row_operations}
-use Rattle.ec_model.specs.Packet.{RequestView}
-use Rattle.ec_params.specs.declared.protection.FlashProtectAsk.{FlashProtectAsk}
-use Rattle.command_table.specs.declared.asks.Ask.{Ask}
-use Rattle.command_table.specs.declared.asks.Ask.TheVariants.{FlashProtect as AsksProtect}
-use Rattle.command_table.specs.Asks.{ask_command, ask_body, IsPassed}
+use Rattle.ec_model.specs.Handle.{row_operations}
 use Rattle.ec_model.specs.ProtectRow.{flash_protect_row, protect_operations, protect_view, protected}
 use Rattle.ec_model.specs.Answer.{Answered}
-use Rattle.ec_boot.specs.States.{RunView, core_at, told_core}
 use Rattle.ec_boot.specs.Ran.{IsStopped, IsProtected, AllBegun, ReadFailed}
 use Rattle.flash_dev.specs.View.{DeviceView}
 use Rattle.ec_model.specs.Operations.{Operation}
 use Rattle.flash_dev.specs.Costs.{hurt_of}
-use Rattle.command_table.specs.Leaves.{Leaves, FoundLeaves, end_status}
+use Rattle.command_table.specs.Leaves.{Leaves, end_status}
 use Rattle.command_table.proofs.ToldLemmas.{changes-map}
 use Rattle.command_table.proofs.RowLemmas.{whole-leaves}
 
@@ -95,23 +89,3 @@ stopped-told mask flags FailedErr hurt other status body device changed old new 
 stopped-told mask flags PowerLost hurt other status body device changed old new first second hurt_is same status_is body_is told =
     changes-map (λ before after. IsProtected mask flags device changed before after (Err PowerLost)) (ProtectLeaves other mask flags status body device changed)
     (λ before after done. subst (λ (h : Hurt). ProtectLeaves h mask flags status body device changed before after) (sym (same ∙ hurt_is)) (stopped-leaves Cut mask flags device changed before after first second done)) old new told
-
--- a request that passed the checks as a FLASH_PROTECT
-pub passed-protect : (request : RequestView) (found : Result Admitted ℕ) (ask : Ask) (inner : FlashProtectAsk) → ask ≡ AsksProtect inner → IsPassed request found ask →
-    found ≡ Ok (record { command = FlashProtect; version = request.version; body = flash_protect_ask inner.mask inner.flags })
-passed-protect request found ask inner same passed =
-    passed.same ∙ ap (λ (a : Ask). let r : Result Admitted ℕ = Ok (record { command = ask_command a; version = request.version; body = ask_body request.version a }) in r) same
-
--- what such a request leaves
-pub found-told : (limit : ℕ) (request : RequestView) (mask flags : ℕ) (hurt : Hurt) (status : ℕ) (body : List ℕ) (old new : RunView) →
-    ((core : Core) → core.live ≡ old.live → admitted core request ≡ Ok (record { command = FlashProtect; version = request.version; body = flash_protect_ask mask flags })) →
-    Changes (ProtectLeaves hurt mask flags status body old.device new.device) (told_core old) (told_core new) →
-    Changes (λ before after. FoundLeaves (admitted before request) hurt limit old.device new.device before after status body) (told_core old) (told_core new)
-found-told limit request mask flags hurt status body old new admits told = by old.device.held new.device.held told where
-  by : (o p : Option (List ℕ)) → Changes (ProtectLeaves hurt mask flags status body old.device new.device) (option_map (core_at old) o) (option_map (core_at new) p) →
-      Changes (λ before after. FoundLeaves (admitted before request) hurt limit old.device new.device before after status body) (option_map (core_at old) o) (option_map (core_at new) p)
-  by None None told = tt
-  by None (Some g) told = told
-  by (Some f) None told = told
-  by (Some f) (Some g) told =
-      subst (λ (found : Result Admitted ℕ). FoundLeaves found hurt limit old.device new.device (core_at old f) (core_at new g) status body) (sym (admits (core_at old f) refl)) told

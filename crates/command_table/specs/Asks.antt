@@ -1,13 +1,14 @@
 -- What the code reads in a request.
 use Rattle.std.specs.Prelude.{◌≡◌, ℕ, ◌==◌, if◌then◌else◌, List, [], IsTrue, IsFalse, Option, Some, None, Result, Ok, Err}
-use Rattle.ec_model.specs.Commands.{Command, CommandLine, is_spelled, Proto, Hello, Chip, CmdVersions, Comms, Test, ProtoInfo, FlashInfo, FlashRead, FlashWrite, FlashErase, FlashProtect, RegionInfo, Resend}
-use Rattle.ec_model.specs.Bodies.{hello_ask, cmd_versions_ask0, cmd_versions_ask1, test_ask, region_info_ask, flash_read_ask, flash_write_ask, flash_erase_ask, flash_protect_ask}
+use Rattle.ec_model.specs.Commands.{Command, CommandLine, is_spelled, Proto, Hello, Version, Chip, CmdVersions, Comms, Test, ProtoInfo, FlashInfo, FlashRead, FlashWrite, FlashErase, FlashProtect, RegionInfo, Sysinfo, VbootHash, Reboot, Resend}
+use Rattle.ec_model.specs.Bodies.{hello_ask, cmd_versions_ask0, cmd_versions_ask1, test_ask, region_info_ask, flash_read_ask, flash_write_ask, flash_erase_ask, flash_protect_ask, vboot_hash_ask, reboot_ask}
 use Rattle.ec_model.specs.Packet.{RequestView}
 use Rattle.ec_model.specs.Handle.{Admitted}
+use Rattle.ec_params.specs.declared.hash.VbootHashAsk.{VbootHashAsk}
 use Rattle.command_table.specs.declared.asks.Question.{Question}
 use Rattle.command_table.specs.declared.asks.Question.TheVariants.{Proto as AsksProto, Hello as AsksHello, Chip as AsksChip, CmdVersions as AsksVersions, Comms as AsksComms, Test as AsksTest, ProtoInfo as AsksProtoInfo, FlashInfo as AsksFlashInfo, RegionInfo as AsksRegion}
 use Rattle.command_table.specs.declared.asks.Ask.{Ask}
-use Rattle.command_table.specs.declared.asks.Ask.TheVariants.{Question as Asks, FlashRead as AsksRead, FlashWrite as AsksWrite, FlashErase as AsksErase, FlashProtect as AsksProtect, Resend as AsksResend}
+use Rattle.command_table.specs.declared.asks.Ask.TheVariants.{Question as Asks, Version as AsksVersion, FlashRead as AsksRead, FlashWrite as AsksWrite, FlashErase as AsksErase, FlashProtect as AsksProtect, Sysinfo as AsksSysinfo, Hash as AsksHash, Reboot as AsksReboot, Resend as AsksResend}
 
 -- the command of a question
 abbrev pub question_command : Question → Command
@@ -24,10 +25,14 @@ question_command (AsksRegion ask) = RegionInfo
 -- the command that is asked
 abbrev pub ask_command : Ask → Command
 ask_command (Asks question) = question_command question
+ask_command AsksVersion = Version
 ask_command (AsksRead ask) = FlashRead
 ask_command (AsksWrite ask) = FlashWrite
 ask_command (AsksErase ask) = FlashErase
 ask_command (AsksProtect ask) = FlashProtect
+ask_command AsksSysinfo = Sysinfo
+ask_command (AsksHash ask) = VbootHash
+ask_command (AsksReboot ask) = Reboot
 ask_command AsksResend = Resend
 
 -- the body that names a command, in each version
@@ -42,13 +47,21 @@ question_body version (AsksTest ask) = test_ask ask.ec_result ask.ret_len ask.bu
 question_body version (AsksRegion ask) = region_info_ask ask.region
 question_body version other = []
 
+-- the body that spells a VBOOT_HASH
+abbrev pub hash_body : VbootHashAsk → List ℕ
+hash_body ask = vboot_hash_ask ask.cmd ask.hash_type ask.nonce_size ask.reserved ask.offset ask.size ask.nonce
+
 -- the body that spells what is asked
 abbrev pub ask_body : ℕ → Ask → List ℕ
 ask_body version (Asks question) = question_body version question
+ask_body version AsksVersion = []
 ask_body version (AsksRead ask) = flash_read_ask ask.offset ask.size
 ask_body version (AsksWrite ask) = flash_write_ask ask.offset ask.bytes.now
 ask_body version (AsksErase ask) = flash_erase_ask ask.offset ask.size
 ask_body version (AsksProtect ask) = flash_protect_ask ask.mask ask.flags
+ask_body version AsksSysinfo = []
+ask_body version (AsksHash ask) = hash_body ask
+ask_body version (AsksReboot ask) = reboot_ask ask.cmd ask.flags
 ask_body version AsksResend = []
 
 -- what a body says to the command of a line: nothing exactly where it is no spelling

@@ -5,7 +5,7 @@ ghost use Rattle.command_table.specs.Asks.{named, IsAskOf};
 
 use ec_params::{
     CmdVersionsAsk0, CmdVersionsAsk1, FlashEraseAsk, FlashProtectAsk, FlashReadAsk, FlashWriteAsk,
-    HelloAsk, RegionInfoAsk, TestAsk, command,
+    HelloAsk, RebootAsk, RegionInfoAsk, TestAsk, VbootHashAsk, command,
 };
 
 /// The commands that only ask, and read no byte of the flash.
@@ -27,10 +27,14 @@ pub enum Question {
 #[derive(Clone, Copy)]
 pub enum Ask<'a> {
     Question(Question),
+    Version,
     FlashRead(FlashReadAsk),
     FlashWrite(FlashWriteAsk<'a>),
     FlashErase(FlashEraseAsk),
     FlashProtect(FlashProtectAsk),
+    Sysinfo,
+    Hash(VbootHashAsk),
+    Reboot(RebootAsk),
     Resend,
 }
 
@@ -61,6 +65,7 @@ pub fn ask_of<'a>(command: u16, version: u8, body: &'a [u8]) -> Option<Ask<'a>>
     match command {
         command::PROTO_VERSION => alone(body, Ask::Question(Question::Proto)),
         command::HELLO => Some(Ask::Question(Question::Hello(HelloAsk::read(body)?))),
+        command::GET_VERSION => alone(body, Ask::Version),
         command::GET_CHIP_INFO => alone(body, Ask::Question(Question::Chip)),
         command::GET_COMMAND_VERSIONS => Some(Ask::Question(Question::CmdVersions(named(
             version, body,
@@ -76,6 +81,9 @@ pub fn ask_of<'a>(command: u16, version: u8, body: &'a [u8]) -> Option<Ask<'a>>
         command::FLASH_REGION_INFO => Some(Ask::Question(Question::RegionInfo(RegionInfoAsk::read(
             body,
         )?))),
+        command::SYSINFO => alone(body, Ask::Sysinfo),
+        command::VBOOT_HASH => Some(Ask::Hash(VbootHashAsk::read(body)?)),
+        command::REBOOT_EC => Some(Ask::Reboot(RebootAsk::read(body)?)),
         command::RESEND_RESPONSE => alone(body, Ask::Resend),
         _ => None,
     }

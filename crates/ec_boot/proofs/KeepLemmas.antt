@@ -17,6 +17,7 @@ use Rattle.ec_types.specs.declared.reset.ResetCause.{ResetCause}
 use Rattle.ec_model.specs.declared.live.AtBoot.{AtBoot}
 use Rattle.ec_model.specs.declared.live.ProtectView.{ProtectView}
 use Rattle.ec_model.specs.Ranges.{is_flash_size, overlaps, wp_ro_range}
+use Rattle.ec_model.specs.Guarded.{guarded_bytes}
 use Rattle.ec_model.specs.Stored.{stored}
 use Rattle.ec_model.specs.Bus.{fresh_bus}
 use Rattle.ec_model.specs.Table.{Core}
@@ -187,7 +188,16 @@ pin-guard old new on asserted same = rw same (by old.device.held) where
         bytes = λ guarded. refl;
       }
 
--- a read
-pub read-guard : (old new : RunView) → new ≡ record old { device = new.device } → new.device.held ≡ old.device.held → Changes KeepsGuard (told_core old) (told_core new)
-read-guard old new rest kept =
-    guard-same old new (ap told_core rest ∙ ap (λ (o : Option (List ℕ)). option_map (core_at old) o) kept)
+-- neither the flash, nor the pin, nor RO's lock changed
+pub guard-kept : (old new : RunView) → new.device.held ≡ old.device.held → new.pin ≡ old.pin → new.live.ro_now ≡ old.live.ro_now → Changes KeepsGuard (told_core old) (told_core new)
+guard-kept old new held pin locked = by old.device.held new.device.held held where
+  by : (o p : Option (List ℕ)) → p ≡ o → Changes KeepsGuard (option_map (core_at old) o) (option_map (core_at new) p)
+  by None None same = tt
+  by None (Some g) same = cc
+  by (Some f) None same = cc
+  by (Some f) (Some g) same =
+      let flash : g ≡ f = cc in
+      record {
+        guarded = λ guarded bus. let was = guarded bus in record { pin = pin ∙ was.pin; stored = ap (λ (bytes : List ℕ). (stored bytes).ro) flash ∙ was.stored; locked = locked ∙ was.locked };
+        bytes = λ guarded. ap guarded_bytes flash;
+      }

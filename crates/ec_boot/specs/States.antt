@@ -3,14 +3,12 @@ use Rattle.std.specs.Prelude.{◌≡◌, ℕ, ◌^◌, ◌<◌, Bool, ◌&&◌, 
 use Rattle.flash_dev.specs.Device.{DeviceView, IsChange}
 use Rattle.flash_dev.specs.Operations.{Operation, operation_range}
 use Rattle.flash_dev.specs.declared.device.DevErr.{DevErr}
-use Rattle.flash_ctl.specs.Locks.{CtlView}
 use Rattle.flash_ctl.specs.declared.CtlErr.{CtlErr}
 use Rattle.flash_ctl.specs.declared.CtlErr.TheVariants.{Locked, Device}
 use Rattle.flash_protect.specs.Locking.{locks_of}
-use Rattle.ec_types.specs.declared.image.ImageCopy.TheVariants.{Ro, Rw}
+use Rattle.ec_types.specs.declared.image.ImageCopy.TheVariants.{Rw}
 use Rattle.ec_model.specs.declared.live.Live.{Live}
-use Rattle.ec_model.specs.declared.live.HashView.TheVariants.{Idle}
-use Rattle.ec_model.specs.Ranges.{Range, is_flash_size, overlaps, wp_ro_range}
+use Rattle.ec_model.specs.Ranges.{Range, overlaps, wp_ro_range}
 use Rattle.ec_model.specs.Table.{Core, IsErasable, IsHashable}
 use Rattle.ec_model.specs.Hash.{touched}
 
@@ -45,15 +43,6 @@ Follows related (Some x) (Some y) = related x y
 -- whether the locks of the live state cover some byte of a range
 abbrev pub is_lock_blocked : ℕ → Live → Range → Bool
 is_lock_blocked size live range = (live.ro_now && overlaps range (wp_ro_range size)) || live.all_now
-
--- what holds of each controller that runs RO: no command starts a hash
-pub record IsRunning (ctl : CtlView) (live : Live) : Type 0 where
-  pub size : IsTrue (is_flash_size ctl.device.extent)
-  pub locks : ctl.locks ≡ locks_of ctl.device.extent live.ro_now live.all_now
-  pub all_with_ro : IsTrue live.all_now → IsTrue live.ro_now
-  pub copy : live.copy ≡ Ro
-  pub hash : live.hash ≡ Idle
-  pub erase : IsErasable ctl.device.extent live live.erase
 
 -- what holds of each controller that is on, whichever image runs
 pub record IsLiveValid (run : RunView) : Type 0 where

@@ -45,8 +45,8 @@ impl<F: FlashDev> Off<F> {
         ensures guard { Follows (RaisesGuard pin) self.device.held (told_core result) }
         ensures looked { IsLookedAt result.live.pstate_bad self.device result.device }
         ensures booted { told_core result ≡ option_map (λ flash. booted flash pin PowerOn result.live.pstate_bad) self.device.held }
-        // Of every flash: RO runs, no erase is pending, and 9 is saved.
-        ensures live { result.live ≡ fresh_live PowerOn result.live.ro_now result.live.all_now result.live.pstate_bad }
+        // Of every flash: RO runs, all of RW begins to be hashed, no erase is pending, and 9 is saved.
+        ensures live { result.live ≡ fresh_live self.device.extent PowerOn result.live.ro_now result.live.all_now result.live.pstate_bad }
         ensures pin { result.pin ≡ pin }
     {
         let Off { flash, geometry } = self;

@@ -1,12 +1,15 @@
 // What a controller that is on can be asked and told, whichever image runs.
-ghost use Rattle.std.specs.Prelude.{◌≡◌, ◌≤◌, ◌+◌, ◌*◌, ◌%◌, length, Some, None, IfSome, IsTrue};
+ghost use Rattle.std.specs.Prelude.{◌≡◌, ◌≤◌, ◌+◌, ◌*◌, ◌%◌, [], true, length, Some, None, IfSome, IsTrue};
 ghost use Rattle.flash_dev.specs.Flash.{block_size};
 ghost use Rattle.flash_dev.specs.Operations.{Program, Erase};
 ghost use Rattle.flash_dev.specs.Device.{IsRead};
 ghost use Rattle.ec_model.specs.Ranges.{is_flash_size};
-ghost use Rattle.ec_model.specs.Table.{IsErasable};
+ghost use Rattle.ec_model.specs.declared.live.HashView.TheVariants.{Idle, Busy};
+ghost use Rattle.ec_model.specs.Table.{IsErasable, ticks_of};
+ghost use Rattle.ec_model.specs.Work.{idle_work};
 ghost use Rattle.flash_dev.specs.Told.{Changes};
 ghost use Rattle.flash_dev.specs.Costs.{Costs, hurt_of};
+ghost use Rattle.flash_dev.specs.Counts.{RisesAtMost};
 ghost use Rattle.ec_boot.specs.States.{RunView, told_core, IsLiveValid, IsOperated};
 ghost use Rattle.ec_boot.specs.Ran.{IsProtected, KeepsLive};
 ghost use Rattle.ec_boot.specs.Ticked.{IsTicked, LeavesTicked};
@@ -58,6 +61,7 @@ pub trait Running {
         requires short { length bytes.now ≤ 64 }
         requires inside { at + length bytes.now ≤ (run self.old).device.extent }
         ensures change { IsOperated (Program at bytes.now) (run self.old) (run self.new) result }
+        ensures copy { (run self.new).live.copy ≡ (run self.old).live.copy }
         ensures guard { Changes KeepsGuard (told_core (run self.old)) (told_core (run self.new)) };
 
     /// Makes each byte of a block 0xFF. A locked block is refused, and then the device is not called; where it is called,
@@ -65,6 +69,7 @@ pub trait Running {
     fn erase_block(&mut self, block: u32) -> Result<(), CtlErr>
         requires { block * block_size + block_size ≤ (run self.old).device.extent }
         ensures change { IsOperated (Erase block) (run self.old) (run self.new) result }
+        ensures copy { (run self.new).live.copy ≡ (run self.old).live.copy }
         ensures guard { Changes KeepsGuard (told_core (run self.old)) (told_core (run self.new)) };
 
     /// FLASH_PROTECT: the stored bits are changed, where others are wanted and RO is not locked, and then the locks that
@@ -78,6 +83,7 @@ pub trait Running {
         ensures idle { mask ≡ 0 → run self.new ≡ record (run self.old) { device = (run self.new).device } }
         ensures pin { (run self.new).pin ≡ (run self.old).pin }
         ensures spent { Costs (hurt_of result) 1024 (run self.old).device (run self.new).device }
+        ensures wear { RisesAtMost 4 (run self.old).device.wear (run self.new).device.wear }
         ensures guard { Changes KeepsGuard (told_core (run self.old)) (told_core (run self.new)) };
 
     /// An erase of some blocks in a row begins, from the block `first` on: each tick that serves no request erases the next
@@ -94,12 +100,33 @@ pub trait Running {
         ensures taken { run self.new ≡ record (run self.old) { live = record (run self.old).live { saved = 9 } } }
         ensures guard { Changes KeepsGuard (told_core (run self.old)) (told_core (run self.new)) };
 
-    /// A tick that serves no request: the next block of a pending erase, and else nothing. An erase ends with its last
-    /// block, and 0 is saved; or with one that failed or was cut, and then 2 is saved. A hash over the block is dropped.
+    /// A hash of a range of the flash begins, with a nonce in front, in place of any other.
+    fn hash_start(&mut self, at: u32, size: u32, nonce: &[u8])
+        requires some { 1 ≤ size }
+        requires inside { at + size ≤ (run self.old).device.extent }
+        requires short { length nonce.now ≤ 64 }
+        ensures started { run self.new ≡ record (run self.old) { live = record (run self.old).live { hash = Busy at size (ticks_of size) }; nonce = nonce.now } }
+        ensures guard { Changes KeepsGuard (told_core (run self.old)) (told_core (run self.new)) };
+
+    /// Any hash is dropped.
+    fn hash_abort(&mut self)
+        ensures aborted { run self.new ≡ record (run self.old) { live = record (run self.old).live { hash = Idle }; nonce = [] } }
+        ensures guard { Changes KeepsGuard (told_core (run self.old)) (told_core (run self.new)) };
+
+    /// Jumps are disabled until the next reset: a controller that is locked lets none pass.
+    fn disable_jump(&mut self)
+        ensures disabled { run self.new ≡ record (run self.old) { live = record (run self.old).live { jump_off = true } } }
+        ensures guard { Changes KeepsGuard (told_core (run self.old)) (told_core (run self.new)) };
+
+    /// A tick that serves no request: the next block of a pending erase, or the next 1,024 bytes of a busy hash, or nothing.
+    /// An erase ends with its last block, and 0 is saved; or with one that failed or was cut, and then 2 is saved. A hash
+    /// over the block is dropped. The last tick of a hash shows its digest; where a read fails, the hash is dropped.
     fn tick(&mut self) -> Result<(), DevErr>
-        ensures told { Changes (λ before after. IsTicked before.live.erase (run self.old).device (run self.new).device before after result) (told_core (run self.old)) (told_core (run self.new)) }
-        ensures rest { LeavesTicked (run self.old).live.erase (run self.old) (run self.new) result }
+        ensures told { Changes (λ before after. IsTicked (idle_work before.live.erase before.live.hash) (run self.old).device (run self.new).device before after result) (told_core (run self.old)) (told_core (run self.new)) }
+        ensures rest { LeavesTicked (idle_work (run self.old).live.erase (run self.old).live.hash) (run self.old) (run self.new) result }
+        ensures copy { (run self.new).live.copy ≡ (run self.old).live.copy }
         ensures pin { (run self.new).pin ≡ (run self.old).pin }
-        ensures spent { Costs (hurt_of result) 0 (run self.old).device (run self.new).device }
+        ensures spent { Costs (hurt_of result) 1024 (run self.old).device (run self.new).device }
+        ensures wear { RisesAtMost 1 (run self.old).device.wear (run self.new).device.wear }
         ensures guard { Changes KeepsGuard (told_core (run self.old)) (told_core (run self.new)) };
 }

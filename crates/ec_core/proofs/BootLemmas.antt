@@ -17,19 +17,23 @@ use Rattle.ec_model.specs.Work.{Boot, work_off, lost_answer, After}
 use Rattle.flash_dev.specs.Costs.{Account}
 use Rattle.flash_dev.proofs.Accounting.{account-none}
 use Rattle.flash_protect.specs.Setting.{IsLookedAt}
+use Rattle.ec_boot.specs.declared.awake.Awake.{Awake}
+use Rattle.ec_boot.specs.Either.{run_of}
+use Rattle.ec_boot.specs.declared.awake.Awake.TheVariants.{Ro}
 use Rattle.ec_boot.specs.States.{RunView, OffView, core_at, told_core, Follows}
-use Rattle.ec_core.specs.Held.{up_table, down_table, IsSpent, Accounts, EventTold, answer_by, boot_hurt}
+use Rattle.ec_core.specs.Held.{up_table, down_table, IsSpent, Accounts, EventTold, answer_by}
+use Rattle.command_table.specs.After.{boot_hurt}
 use Rattle.ec_core.specs.Task.{IsTakenUp, IsTakenDown, IsStepped}
 use Rattle.ec_core.specs.declared.held.Held.{Held}
 use Rattle.ec_core.specs.declared.held.Held.TheVariants.{Down, Up}
 use Rattle.ec_core.specs.declared.task.Task.TheVariants.{Boot as BootTask}
 use Rattle.ec_core.proofs.TaskLemmas.{WorkBegun, WorkTold, event-told, on_by, step-up, step-down}
 
-same-core : (a b : Core) (o : Option Core) → o ≡ Some a → o ≡ Some b → a ≡ b
+pub same-core : (a b : Core) (o : Option Core) → o ≡ Some a → o ≡ Some b → a ≡ b
 same-core a b o first second = cc
 
 -- a boot reads, and begins no operation
-boot-account : (bad : Bool) (old new : DeviceView) (f g : List ℕ) → IsLookedAt bad old new → Account 0 (boot_hurt bad) [] old new f g
+pub boot-account : (bad : Bool) (old new : DeviceView) (f g : List ℕ) → IsLookedAt bad old new → Account 0 (boot_hurt bad) [] old new f g
 boot-account true old new f g looked = account-none Failed [] old new f g looked.begun looked.armed looked.wear (looked.failed refl)
 boot-account false old new f g looked = account-none Whole [] old new f g looked.begun looked.armed looked.wear tt
 
@@ -59,7 +63,7 @@ boot-told run next bus kind cause bad answer lost kind_is looked told = by run.d
   by (Some f) (Some g) same = boot-work (core_at run f) bus kind cause bad answer lost run.device next.device (core_at next g) kind_is looked (same-core (core_at next g) (booted f run.pin cause bad) (Some (core_at next g)) refl same)
 
 -- no request is due on a fresh bus
-fresh-none : (kind : BusKind) → IsNone (due_now (fresh_bus kind))
+pub fresh-none : (kind : BusKind) → IsNone (due_now (fresh_bus kind))
 fresh-none Lpc = refl
 fresh-none I2c = refl
 fresh-none Spi = refl
@@ -68,35 +72,35 @@ boot-answer : (bad : Bool) (answer lost : ℕ) → answer_by (boot_hurt bad) ans
 boot-answer true answer lost = refl
 boot-answer false answer lost = refl
 
-boot-on : (bad on : Bool) → on_by (boot_hurt bad) on ≡ on
+pub boot-on : (bad on : Bool) → on_by (boot_hurt bad) on ≡ on
 boot-on true on = refl
 boot-on false on = refl
 
-boot-alive : (bad : Bool) → boot_hurt bad ≡ Cut → ⊥
+pub boot-alive : (bad : Bool) → boot_hurt bad ≡ Cut → ⊥
 boot-alive true cut = cc
 boot-alive false cut = cc
 
 -- a boot reads the stored bits once
-boot-spent : (bad : Bool) (old new : DeviceView) → IsLookedAt bad old new → IsSpent (boot_hurt bad) old new
+pub boot-spent : (bad : Bool) (old new : DeviceView) → IsLookedAt bad old new → IsSpent (boot_hurt bad) old new
 boot-spent true old new looked =
     record { extent = looked.extent; faults = looked.faults; cuts = looked.cuts; own_cuts = looked.own_cuts; rose = looked.failed refl; refusals = looked.refusals; fetched = record { least = omega (arith, looked.fetched); most = omega (arith, looked.fetched) } }
 boot-spent false old new looked =
     record { extent = looked.extent; faults = looked.faults; cuts = looked.cuts; own_cuts = looked.own_cuts; rose = tt; refusals = looked.refusals; fetched = record { least = omega (arith, looked.fetched); most = omega (arith, looked.fetched) } }
 
 -- a boot of a controller that is on
-pub booted-up : {F : Type 0} (kind : BusKind) (event : Event) (cause : ResetCause) (hurt : Hurt) (answer : ℕ) (old_bus bus new_bus : BusState) (run next : RunView) (held : Held F) → kind_of bus ≡ kind → new_bus ≡ fresh_bus kind →
-    hurt ≡ boot_hurt next.live.pstate_bad → held ≡ Up next → IsTakenUp event old_bus (Some (BootTask cause)) bus answer run → IsLookedAt next.live.pstate_bad run.device next.device →
-    told_core next ≡ option_map (λ flash. booted flash run.pin cause next.live.pstate_bad) run.device.held → next.pin ≡ run.pin →
-    IsStepped kind event hurt (answer_by hurt answer (lost_answer event)) old_bus new_bus (Some (Up run)) (Some held)
-booted-up {F} kind event cause hurt answer old_bus bus new_bus run next held kind_is bus_is hurt_is held_is taken looked told pin_is =
+pub booted-up : {F : Type 0} (kind : BusKind) (event : Event) (cause : ResetCause) (hurt : Hurt) (answer : ℕ) (old_bus bus new_bus : BusState) (up : Awake F) (next : RunView) (held : Held F) → kind_of bus ≡ kind → new_bus ≡ fresh_bus kind →
+    hurt ≡ boot_hurt next.live.pstate_bad → held ≡ Up (Ro next) → IsTakenUp event old_bus (Some (BootTask cause)) bus answer (run_of up) → IsLookedAt next.live.pstate_bad (run_of up).device next.device →
+    told_core next ≡ option_map (λ flash. booted flash (run_of up).pin cause next.live.pstate_bad) (run_of up).device.held → next.pin ≡ (run_of up).pin →
+    IsStepped kind event hurt (answer_by hurt answer (lost_answer event)) old_bus new_bus (Some (Up up)) (Some held)
+booted-up {F} kind event cause hurt answer old_bus bus new_bus up next held kind_is bus_is hurt_is held_is taken looked told pin_is =
     let bad : Bool = next.live.pstate_bad in
-    subst (λ (h : Hurt). IsStepped {F = F} kind event h (answer_by h answer (lost_answer event)) old_bus new_bus (Some (Up run)) (Some held)) (sym hurt_is)
-    (subst (λ (b : BusState). IsStepped {F = F} kind event (boot_hurt bad) (answer_by (boot_hurt bad) answer (lost_answer event)) old_bus b (Some (Up run)) (Some held)) (sym bus_is)
-    (subst (λ (h : Held F). IsStepped {F = F} kind event (boot_hurt bad) (answer_by (boot_hurt bad) answer (lost_answer event)) old_bus (fresh_bus kind) (Some (Up run)) (Some h)) (sym held_is)
-    (step-up {F = F} kind event (boot_hurt bad) answer old_bus bus (fresh_bus kind) (Some (BootTask cause)) run (Up next) taken
-    (subst (λ (n : ℕ). EventTold (boot_hurt bad) event n run.device next.device (up_table old_bus run) (up_table (fresh_bus kind) next)) (sym (boot-answer bad answer (lost_answer event)))
-    (event-told (boot_hurt bad) event old_bus bus answer answer next.device run (Boot cause) (up_table (fresh_bus kind) next) taken.state taken.answer_is taken.task_is (boot-told run next bus kind cause bad answer (lost_answer event) kind_is looked told)))
-    (sym (boot-on bad true)) pin_is (fresh-none kind) (boot-spent bad run.device next.device looked))))
+    subst (λ (h : Hurt). IsStepped {F = F} kind event h (answer_by h answer (lost_answer event)) old_bus new_bus (Some (Up up)) (Some held)) (sym hurt_is)
+    (subst (λ (b : BusState). IsStepped {F = F} kind event (boot_hurt bad) (answer_by (boot_hurt bad) answer (lost_answer event)) old_bus b (Some (Up up)) (Some held)) (sym bus_is)
+    (subst (λ (h : Held F). IsStepped {F = F} kind event (boot_hurt bad) (answer_by (boot_hurt bad) answer (lost_answer event)) old_bus (fresh_bus kind) (Some (Up up)) (Some h)) (sym held_is)
+    (step-up {F = F} kind event (boot_hurt bad) answer old_bus bus (fresh_bus kind) (Some (BootTask cause)) up (Up (Ro next)) taken
+    (subst (λ (n : ℕ). EventTold (boot_hurt bad) event n (run_of up).device next.device (up_table old_bus (run_of up)) (up_table (fresh_bus kind) next)) (sym (boot-answer bad answer (lost_answer event)))
+    (event-told (boot_hurt bad) event old_bus bus answer answer next.device (run_of up) (Boot cause) (up_table (fresh_bus kind) next) taken.state taken.answer_is taken.task_is (boot-told (run_of up) next bus kind cause bad answer (lost_answer event) kind_is looked told)))
+    (sym (boot-on bad true)) pin_is (fresh-none kind) (boot-spent bad (run_of up).device next.device looked))))
 
 -- only power has a controller boot that is off, and that answers nothing
 pub record IsPowerOn (event : Event) (cause : ResetCause) : Type 0 where
@@ -136,7 +140,7 @@ boot-off-told off next pin kind bad looked told = by off.device.held next.device
 
 -- a boot of a controller that is off
 pub booted-down : {F : Type 0} (kind : BusKind) (event : Event) (cause : ResetCause) (hurt : Hurt) (answer : ℕ) (old_bus new_bus : BusState) (off : OffView) (pin : Bool) (next : RunView) (held : Held F) → new_bus ≡ fresh_bus kind →
-    hurt ≡ boot_hurt next.live.pstate_bad → held ≡ Up next → IsTakenDown event (Some (BootTask cause)) answer → IsLookedAt next.live.pstate_bad off.device next.device →
+    hurt ≡ boot_hurt next.live.pstate_bad → held ≡ Up (Ro next) → IsTakenDown event (Some (BootTask cause)) answer → IsLookedAt next.live.pstate_bad off.device next.device →
     told_core next ≡ option_map (λ flash. booted flash pin PowerOn next.live.pstate_bad) off.device.held → next.pin ≡ pin →
     IsStepped kind event hurt (answer_by hurt answer (lost_answer event)) old_bus new_bus (Some (Down off pin)) (Some held)
 booted-down {F} kind event cause hurt answer old_bus new_bus off pin next held bus_is hurt_is held_is taken looked told pin_is =
@@ -149,5 +153,5 @@ booted-down {F} kind event cause hurt answer old_bus new_bus off pin next held b
     subst (λ (h : Hurt). IsStepped {F = F} kind event h (answer_by h answer (lost_answer event)) old_bus new_bus (Some (Down off pin)) (Some held)) (sym hurt_is)
     (subst (λ (b : BusState). IsStepped {F = F} kind event (boot_hurt bad) (answer_by (boot_hurt bad) answer (lost_answer event)) old_bus b (Some (Down off pin)) (Some held)) (sym bus_is)
     (subst (λ (h : Held F). IsStepped {F = F} kind event (boot_hurt bad) (answer_by (boot_hurt bad) answer (lost_answer event)) old_bus (fresh_bus kind) (Some (Down off pin)) (Some h)) (sym held_is)
-    (step-down {F = F} kind event (boot_hurt bad) answer old_bus (fresh_bus kind) (Some (BootTask cause)) off pin (Up next) (boot-alive bad) taken here
+    (step-down {F = F} kind event (boot_hurt bad) answer old_bus (fresh_bus kind) (Some (BootTask cause)) off pin (Up (Ro next)) (boot-alive bad) taken here
     refl pin_is (fresh-none kind) (boot-spent bad off.device next.device looked))))

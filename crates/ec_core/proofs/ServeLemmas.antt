@@ -1,5 +1,5 @@
 -- What a request leaves, by its answer.
-use Rattle.std.proofs.Common.{◌≡◌, refl, sym, ap, ◌∙◌, subst, ℕ, suc, ◌-◌, ◌≤◌, Bool, List, [], length, Option, Some, None, Result, Ok, Err, inl, inr, arith, ◌||◌, true, false}
+use Rattle.std.proofs.Common.{◌≡◌, refl, sym, ap, ◌∙◌, subst, ℕ, suc, ◌-◌, ◌≤◌, Bool, List, [], length, drop, Option, Some, None, Result, Ok, Err, inl, inr, arith, ◌||◌, true, false}
 use Rattle.std.specs.Prelude.{option_map, ◌⊎◌, IsTrue, IsNone}
 use Rattle.flash_dev.specs.Told.{Changes}
 use Rattle.ec_types.specs.declared.status.Status.{Status}
@@ -10,16 +10,18 @@ use Rattle.flash_dev.specs.declared.hurt.Hurt.{Hurt}
 use Rattle.flash_dev.specs.declared.hurt.Hurt.TheVariants.{Whole, Failed, Cut}
 use Rattle.ec_model.specs.declared.event.Event.{Event}
 use Rattle.ec_model.specs.Packet.{RequestView, framing, response_packet}
-use Rattle.ec_model.specs.Bus.{BusState, BusAnswer, due_now, OnLpc, OnI2c, OnSpi, kind_of, replied}
+use Rattle.ec_model.specs.Bus.{BusState, BusAnswer, due_now, OnLpc, OnI2c, OnSpi, kind_of, replied, fresh_bus}
 use Rattle.ec_model.specs.Table.{Core, table_of, off_table}
-use Rattle.ec_model.specs.Answer.{Outcome, Answered, Restarts, is_restart}
-use Rattle.ec_model.specs.Handle.{admitted, admitted_from, asked, row_of, operations_by, handled, handled_reads, handled_operations}
+use Rattle.ec_model.specs.Answer.{Outcome, Answered, Restarts, is_restart, unless_refused, done}
+use Rattle.ec_model.specs.Handle.{Admitted, admitted, admitted_from, asked, row, row_operations, row_of, operations_by, handled, handled_reads, handled_operations}
 use Rattle.ec_model.specs.Work.{Serve, After as AfterEvent, work_on, lost_answer}
 use Rattle.ec_model.specs.WholeStep.{after_outcome}
 use Rattle.ec_model.specs.Step.{after_unread, error_replied, failed_core}
 use Rattle.ec_packet.specs.declared.request.Request.{Request}
 use Rattle.ec_packet.specs.Read.{request_view, IsReadAs}
 use Rattle.ec_wire.specs.Dues.{waiting_request}
+use Rattle.ec_boot.specs.declared.awake.Awake.{Awake}
+use Rattle.ec_boot.specs.Either.{run_of}
 use Rattle.ec_boot.specs.States.{RunView, OffView, core_at, told_core, Follows}
 use Rattle.command_table.specs.declared.table.After.{After}
 use Rattle.flash_dev.specs.View.{DeviceView}
@@ -27,12 +29,22 @@ use Rattle.flash_dev.proofs.Accounting.{account-same}
 use Rattle.ec_model.specs.Operations.{Operation}
 use Rattle.ec_boot.specs.Ran.{IsStopped, AllBegun, ReadFailed}
 use Rattle.command_table.specs.Leaves.{FoundLeaves, HasReply}
-use Rattle.command_table.specs.After.{IsAnswered, IsLostIn, StaysOn, GoesOff}
+use Rattle.command_table.specs.declared.table.After.TheVariants.{Ro, Rw, Reset, Off}
+use Rattle.command_table.specs.After.{IsAnswered, IsLostIn, IsOnAs, StaysOn, RestartsAs, GoesOff, boot_hurt}
+use Rattle.ec_boot.specs.declared.awake.Awake.TheVariants.{Ro as AwakeRo}
+use Rattle.flash_protect.specs.Setting.{IsLookedAt}
+use Rattle.flash_dev.specs.Costs.{Account}
+use Rattle.ec_types.specs.declared.reset.ResetCause.TheVariants.{Cold}
+use Rattle.ec_types.specs.LittleEndian.{u32_at}
+use Rattle.ec_model.specs.Boot.{booted, booted_table}
+use Rattle.ec_model.specs.Commands.{Command, Proto, Hello, Version, Chip, CmdVersions, Comms, Test, ProtoInfo, FlashInfo, FlashRead, FlashWrite, FlashErase, FlashProtect, RegionInfo, Sysinfo, VbootHash, Reboot, Resend}
+use Rattle.ec_model.specs.FlashRows.{write_refusal, written}
 use Rattle.ec_core.specs.Held.{awake_of, up_table, down_table, answer_by}
 use Rattle.ec_core.specs.Task.{IsTakenUp, IsStepped}
 use Rattle.ec_core.specs.declared.held.Held.TheVariants.{Down, Up}
 use Rattle.ec_core.specs.declared.task.Task.TheVariants.{Serve as ServeTask}
-use Rattle.ec_core.proofs.TaskLemmas.{WorkBegun, WorkTold, event-told, step-up, unspent, on-alive, spent-in}
+use Rattle.ec_core.proofs.TaskLemmas.{WorkBegun, WorkTold, event-told, step-up, unspent, on-alive, on-after, lost-silent, spent-in}
+use Rattle.ec_core.proofs.BootLemmas.{boot-account, boot-on, boot-spent, fresh-none, same-core}
 
 read-ok : (read : Result RequestView ℕ) (request : Request) → IsReadAs read (Ok request) → read ≡ Ok (request_view request)
 read-ok (Ok view) request same = ap (λ (v : RequestView). let r : Result RequestView ℕ = Ok v in r) (sym same)
@@ -67,6 +79,7 @@ packet-refused kind bytes error hurt status body on read whole status_is body_is
     (subst (λ (b : List ℕ). StaysOn (packet_limit kind) (λ core. asked core bytes) Whole error.0 b on on) (sym body_is)
     (record {
       alive = λ cut. cc;
+      stays = λ core same. ap (λ (r : Result RequestView ℕ). is_restart (row_of core (packet_limit kind) (admitted_from core r))) (read-err (framing bytes) error read);
       leaves = leaves on.device.held;
       pin = refl;
       short = (limits kind).least;
@@ -192,26 +205,138 @@ short-of : (kind : BusKind) → packet_limit kind - 8 ≤ 1024
 short-of kind = let is = limits kind in omega (arith, is.most)
 
 -- a request that was answered
-pub served-up : {F : Type 0} (kind : BusKind) (event : Event) (answer : ℕ) (old_bus bus new_bus : BusState) (run next : RunView) (hurt : Hurt) (status : ℕ) (body bytes : List ℕ) → kind_of bus ≡ kind → waiting_request bus ≡ Some bytes →
-    new_bus ≡ replied (response_packet status body) bus → StaysOn (packet_limit kind) (λ core. asked core bytes) hurt status body run next →
-    IsTakenUp event old_bus (Some ServeTask) bus answer run → IsStepped {F = F} kind event hurt (answer_by hurt answer (lost_answer event)) old_bus new_bus (Some (Up run)) (Some (Up next))
-served-up {F} kind event answer old_bus bus new_bus run next hurt status body bytes kind_is asked_is bus_is stays_on taken =
-    let work_is : work_on (awake_of run old_bus) event ≡ Serve bytes = taken.task_is.serves ∙ ap (λ (r : List ℕ). Serve r) (same-some taken.task_is.request bytes (waiting_request bus) taken.task_is.asked asked_is) in
-    let leaves = subst (λ (k : BusKind). Changes (λ before after. FoundLeaves (asked before bytes) hurt (packet_limit k) run.device next.device before after status body) (told_core run) (told_core next)) (sym kind_is) stays_on.leaves in
-    subst (λ (b : BusState). IsStepped {F = F} kind event hurt (answer_by hurt answer (lost_answer event)) old_bus b (Some (Up run)) (Some (Up next))) (sym bus_is)
-    (step-up {F = F} kind event hurt answer old_bus bus (replied (response_packet status body) bus) (Some ServeTask) run (Up next) taken
-    (event-told hurt event old_bus bus answer (answer_by hurt answer (lost_answer event)) next.device run (Serve bytes) (up_table (replied (response_packet status body) bus) next) taken.state taken.answer_is work_is
-    (replied-told hurt run next bus answer (lost_answer event) bytes status body stays_on.alive leaves))
-    (on-alive hurt stays_on.alive) stays_on.pin (replied-none (response_packet status body) bus) (spent-in hurt 1024 run.device next.device (omega arith) stays_on.spent))
+pub served-up : {F : Type 0} (kind : BusKind) (event : Event) (answer : ℕ) (old_bus bus new_bus : BusState) (up later : Awake F) (hurt : Hurt) (status : ℕ) (body bytes : List ℕ) → kind_of bus ≡ kind → waiting_request bus ≡ Some bytes →
+    new_bus ≡ replied (response_packet status body) bus → StaysOn (packet_limit kind) (λ core. asked core bytes) hurt status body (run_of up) (run_of later) →
+    IsTakenUp event old_bus (Some ServeTask) bus answer (run_of up) → IsStepped {F = F} kind event hurt (answer_by hurt answer (lost_answer event)) old_bus new_bus (Some (Up up)) (Some (Up later))
+served-up {F} kind event answer old_bus bus new_bus up later hurt status body bytes kind_is asked_is bus_is stays_on taken =
+    let work_is : work_on (awake_of (run_of up) old_bus) event ≡ Serve bytes = taken.task_is.serves ∙ ap (λ (r : List ℕ). Serve r) (same-some taken.task_is.request bytes (waiting_request bus) taken.task_is.asked asked_is) in
+    let leaves = subst (λ (k : BusKind). Changes (λ before after. FoundLeaves (asked before bytes) hurt (packet_limit k) (run_of up).device (run_of later).device before after status body) (told_core (run_of up)) (told_core (run_of later))) (sym kind_is) stays_on.leaves in
+    subst (λ (b : BusState). IsStepped {F = F} kind event hurt (answer_by hurt answer (lost_answer event)) old_bus b (Some (Up up)) (Some (Up later))) (sym bus_is)
+    (step-up {F = F} kind event hurt answer old_bus bus (replied (response_packet status body) bus) (Some ServeTask) up (Up later) taken
+    (event-told hurt event old_bus bus answer (answer_by hurt answer (lost_answer event)) (run_of later).device (run_of up) (Serve bytes) (up_table (replied (response_packet status body) bus) (run_of later)) taken.state taken.answer_is work_is
+    (replied-told hurt (run_of up) (run_of later) bus answer (lost_answer event) bytes status body stays_on.alive leaves))
+    (on-alive hurt stays_on.alive) stays_on.pin (replied-none (response_packet status body) bus) (spent-in hurt 1024 (run_of up).device (run_of later).device (omega arith) stays_on.spent))
 
 -- a request in which power was lost
-pub served-down : {F : Type 0} (kind : BusKind) (event : Event) (answer : ℕ) (old_bus bus : BusState) (run : RunView) (off : OffView) (pin : Bool) (hurt : Hurt) (bytes : List ℕ) → kind_of bus ≡ kind → waiting_request bus ≡ Some bytes → pin ≡ run.pin →
-    GoesOff (packet_limit kind) (λ core. asked core bytes) hurt run off →
-    IsTakenUp event old_bus (Some ServeTask) bus answer run → IsStepped {F = F} kind event Cut (lost_answer event) old_bus bus (Some (Up run)) (Some (Down off pin))
-served-down {F} kind event answer old_bus bus run off pin hurt bytes kind_is asked_is pin_is goes_off taken =
-    let work_is : work_on (awake_of run old_bus) event ≡ Serve bytes = taken.task_is.serves ∙ ap (λ (r : List ℕ). Serve r) (same-some taken.task_is.request bytes (waiting_request bus) taken.task_is.asked asked_is) in
-    subst (λ (p : Bool). IsStepped {F = F} kind event Cut (lost_answer event) old_bus bus (Some (Up run)) (Some (Down off p))) (sym pin_is)
-    (step-up {F = F} kind event Cut answer old_bus bus bus (Some ServeTask) run (Down off run.pin) taken
-    (event-told Cut event old_bus bus answer (lost_answer event) off.device run (Serve bytes) (down_table kind run.pin off) taken.state taken.answer_is work_is
-    (lost-told run off bus kind answer (lost_answer event) bytes kind_is goes_off.leaves))
-    refl refl tt (spent-in Cut 1024 run.device off.device (omega arith) goes_off.spent))
+pub served-down : {F : Type 0} (kind : BusKind) (event : Event) (answer : ℕ) (old_bus bus : BusState) (up : Awake F) (off : OffView) (pin : Bool) (hurt : Hurt) (bytes : List ℕ) → kind_of bus ≡ kind → waiting_request bus ≡ Some bytes → pin ≡ (run_of up).pin →
+    GoesOff (packet_limit kind) (λ core. asked core bytes) hurt (run_of up) off →
+    IsTakenUp event old_bus (Some ServeTask) bus answer (run_of up) → IsStepped {F = F} kind event Cut (lost_answer event) old_bus bus (Some (Up up)) (Some (Down off pin))
+served-down {F} kind event answer old_bus bus up off pin hurt bytes kind_is asked_is pin_is goes_off taken =
+    let work_is : work_on (awake_of (run_of up) old_bus) event ≡ Serve bytes = taken.task_is.serves ∙ ap (λ (r : List ℕ). Serve r) (same-some taken.task_is.request bytes (waiting_request bus) taken.task_is.asked asked_is) in
+    subst (λ (p : Bool). IsStepped {F = F} kind event Cut (lost_answer event) old_bus bus (Some (Up up)) (Some (Down off p))) (sym pin_is)
+    (step-up {F = F} kind event Cut answer old_bus bus bus (Some ServeTask) up (Down off (run_of up).pin) taken
+    (event-told Cut event old_bus bus answer (lost_answer event) off.device (run_of up) (Serve bytes) (down_table kind (run_of up).pin off) taken.state taken.answer_is work_is
+    (lost-told (run_of up) off bus kind answer (lost_answer event) bytes kind_is goes_off.leaves))
+    refl refl tt (spent-in Cut 1024 (run_of up).device off.device (omega arith) goes_off.spent))
+
+-- a packet that is no request, answered by whichever image runs
+pub refused-packet : {F : Type 0} (kind : BusKind) (bytes : List ℕ) (error : Status) (hurt : Hurt) (status : ℕ) (body : List ℕ) (on : RunView) (after : After F) → IsReadAs (framing bytes) (Err error) → hurt ≡ Whole → status ≡ error.0 → body ≡ [] → IsOnAs on after →
+    IsAnswered (packet_limit kind) (λ core. asked core bytes) hurt status body on after
+refused-packet kind bytes error hurt status body on (Ro new) read whole status_is body_is same = rw same (packet-refused kind bytes error hurt status body on read whole status_is body_is)
+refused-packet kind bytes error hurt status body on (Rw new) read whole status_is body_is same = rw same (packet-refused kind bytes error hurt status body on read whole status_is body_is)
+refused-packet kind bytes error hurt status body on (Reset new) read whole status_is body_is same = absurd same
+refused-packet kind bytes error hurt status body on (Off off) read whole status_is body_is same = absurd same
+
+-- a row that restarts the controller has no operations
+unless-restarts : (refusal : Option ℕ) (core after : Core) → unless_refused refusal core (done after) ≡ Restarts → ⊥
+unless-restarts None core after same = cc
+unless-restarts (Some status) core after same = cc
+
+none-restarting : (core : Core) (limit : ℕ) (command : Command) (version : ℕ) (body : List ℕ) → row core limit command version body ≡ Restarts → row_operations core command version body ≡ []
+none-restarting core limit Proto version body same = refl
+none-restarting core limit Hello version body same = refl
+none-restarting core limit Version version body same = refl
+none-restarting core limit Chip version body same = refl
+none-restarting core limit CmdVersions version body same = refl
+none-restarting core limit Comms version body same = refl
+none-restarting core limit Test version body same = refl
+none-restarting core limit ProtoInfo version body same = refl
+none-restarting core limit FlashInfo version body same = refl
+none-restarting core limit FlashRead version body same = refl
+none-restarting core limit FlashWrite version body same = absurd (unless-restarts (write_refusal core version body) core (written (u32_at 0 body) (drop 8 body) core) same)
+none-restarting core limit FlashErase version body same = refl
+none-restarting core limit FlashProtect version body same = cc
+none-restarting core limit RegionInfo version body same = refl
+none-restarting core limit Sysinfo version body same = refl
+none-restarting core limit VbootHash version body same = refl
+none-restarting core limit Reboot version body same = refl
+none-restarting core limit Resend version body same = refl
+
+found-none : (core : Core) (limit : ℕ) (found : Result Admitted ℕ) → row_of core limit found ≡ Restarts → operations_by core found ≡ []
+found-none core limit (Err status) same = cc
+found-none core limit (Ok found) same = none-restarting core limit found.command found.version found.body same
+
+-- a restart, by its parts
+or-right : (a b : Bool) → b ≡ true → (a || b) ≡ true
+or-right true b is = refl
+or-right false b is = is
+
+restart-leaves : (bad : Bool) (device changed : DeviceView) (before after : Core) (bus : BusState) (kind : BusKind) (answer lost : ℕ) (bytes : List ℕ) → kind_of bus ≡ kind → IsLookedAt bad device changed → handled before (packet_limit kind) bytes ≡ Restarts →
+    after ≡ booted before.flash before.pin Cold bad → WorkBegun (boot_hurt bad) (record { state = bus; answer = answer }) lost (Serve bytes) lost device changed before (table_of after (fresh_bus kind))
+restart-leaves bad device changed before after bus kind answer lost bytes kind_is looked restarts after_is = by bad looked after_is where
+  here : handled before (packet_limit (kind_of bus)) bytes ≡ Restarts
+  here = ap (λ (k : BusKind). handled before (packet_limit k) bytes) kind_is ∙ restarts
+
+  none : handled_operations before bytes ≡ []
+  none = found-none before (packet_limit kind) (asked before bytes) restarts
+
+  table : (unread : Bool) → after ≡ booted before.flash before.pin Cold unread →
+      ◌≡◌ {A = AfterEvent} (record { table = table_of after (fresh_bus kind); answer = lost }) (record { table = booted_table before.flash before.pin (kind_of bus) Cold unread; answer = lost })
+  table unread is =
+      ap (λ (c : Core). let a : AfterEvent = record { table = table_of c (fresh_bus kind); answer = lost } in a) is
+      ∙ ap (λ (k : BusKind). let a : AfterEvent = record { table = booted_table before.flash before.pin k Cold unread; answer = lost } in a) (sym kind_is)
+
+  by : (bad : Bool) → IsLookedAt bad device changed → after ≡ booted before.flash before.pin Cold bad →
+      WorkBegun (boot_hurt bad) (record { state = bus; answer = answer }) lost (Serve bytes) lost device changed before (table_of after (fresh_bus kind))
+  by true looked is = record {
+    begun = 0;
+    leaves = inl (
+      refl,
+      record {
+        reads = or-right (handled_reads before (packet_limit (kind_of bus)) bytes) (is_restart (handled before (packet_limit (kind_of bus)) bytes)) (ap is_restart here);
+        leaves = table true is ∙ ap (after_unread before (record { state = bus; answer = answer }) lost) (sym here);
+      },
+    );
+    account = subst (λ (operations : List Operation). Account 0 Failed operations device changed before.flash after.flash) (sym none) (boot-account true device changed before.flash after.flash looked);
+  }
+  by false looked is = record {
+    begun = 0;
+    leaves = (ap (λ (operations : List Operation). length operations) (sym none), table false is ∙ ap (after_outcome before (record { state = bus; answer = answer }) lost) (sym here));
+    account = subst (λ (operations : List Operation). Account 0 Whole operations device changed before.flash after.flash) (sym none) (boot-account false device changed before.flash after.flash looked);
+  }
+
+-- the same, where the flash tells its bytes
+restart-told : (old new : RunView) (bus : BusState) (kind : BusKind) (answer lost : ℕ) (bytes : List ℕ) (hurt : Hurt) → kind_of bus ≡ kind → RestartsAs (packet_limit kind) (λ core. asked core bytes) hurt old new →
+    WorkTold (boot_hurt new.live.pstate_bad) (record { state = bus; answer = answer }) lost (Serve bytes) lost new.device old (up_table (fresh_bus kind) new)
+restart-told old new bus kind answer lost bytes hurt kind_is restarts = by old.device.held new.device.held restarts.booted where
+  by : (o p : Option (List ℕ)) → option_map (core_at new) p ≡ option_map (λ flash. booted flash old.pin Cold new.live.pstate_bad) o →
+      Follows (WorkBegun (boot_hurt new.live.pstate_bad) (record { state = bus; answer = answer }) lost (Serve bytes) lost old.device new.device)
+      (option_map (core_at old) o) (option_map (λ flash. table_of (core_at new flash) (fresh_bus kind)) p)
+  by None None same = tt
+  by None (Some g) same = cc
+  by (Some f) None same = cc
+  by (Some f) (Some g) same =
+      restart-leaves new.live.pstate_bad old.device new.device (core_at old f) (core_at new g) bus kind answer lost bytes kind_is restarts.looked (restarts.restarts (core_at old f) refl)
+      (same-core (core_at new g) (booted f old.pin Cold new.live.pstate_bad) (Some (core_at new g)) refl same)
+
+-- a request that restarted the controller
+pub served-restart : {F : Type 0} (kind : BusKind) (event : Event) (answer : ℕ) (old_bus bus new_bus : BusState) (up : Awake F) (next : RunView) (hurt : Hurt) (status : ℕ) (body bytes : List ℕ) → kind_of bus ≡ kind → waiting_request bus ≡ Some bytes →
+    new_bus ≡ fresh_bus kind → RestartsAs (packet_limit kind) (λ core. asked core bytes) hurt (run_of up) next →
+    IsTakenUp event old_bus (Some ServeTask) bus answer (run_of up) → IsStepped {F = F} kind event hurt (lost_answer event) old_bus new_bus (Some (Up up)) (Some (Up (AwakeRo next)))
+served-restart {F} kind event answer old_bus bus new_bus up next hurt status body bytes kind_is asked_is bus_is restarts taken =
+    let bad : Bool = next.live.pstate_bad in
+    let work_is : work_on (awake_of (run_of up) old_bus) event ≡ Serve bytes = taken.task_is.serves ∙ ap (λ (r : List ℕ). Serve r) (same-some taken.task_is.request bytes (waiting_request bus) taken.task_is.asked asked_is) in
+    subst (λ (h : Hurt). IsStepped {F = F} kind event h (lost_answer event) old_bus new_bus (Some (Up up)) (Some (Up (AwakeRo next)))) (sym restarts.hurt_is)
+    (subst (λ (b : BusState). IsStepped {F = F} kind event (boot_hurt bad) (lost_answer event) old_bus b (Some (Up up)) (Some (Up (AwakeRo next)))) (sym bus_is)
+    (record {
+      told = event-told (boot_hurt bad) event old_bus bus answer (lost_answer event) next.device (run_of up) (Serve bytes) (up_table (fresh_bus kind) next) taken.state taken.answer_is work_is
+          (restart-told (run_of up) next bus kind answer (lost_answer event) bytes hurt kind_is restarts);
+      on = sym (boot-on bad true) ∙ sym (on-after (boot_hurt bad) event true true taken.like.on_is);
+      pin = restarts.pin ∙ sym (taken.like.pin_is (run_of up).pin);
+      off = λ down. cc;
+      lost = λ cut. refl;
+      alive = λ cut. refl;
+      silent = lost-silent event;
+      calm = fresh-none kind;
+      spent = boot-spent bad (run_of up).device next.device restarts.looked;
+    }))

@@ -14,6 +14,8 @@ use Rattle.ec_model.specs.Work.{Work, Rest, Serve, Stop, SetPin, work_on, work_o
 use Rattle.ec_model.specs.WholeStep.{worked_off}
 use Rattle.ec_model.specs.Step.{WorkLeaves, OffLeaves}
 use Rattle.ec_wire.specs.Dues.{waiting_request}
+use Rattle.ec_boot.specs.declared.awake.Awake.{Awake}
+use Rattle.ec_boot.specs.Either.{run_of}
 use Rattle.ec_boot.specs.States.{RunView, OffView, core_at, told_core, Follows}
 use Rattle.flash_dev.specs.Costs.{Costs, Account}
 use Rattle.flash_dev.proofs.Accounting.{account-same}
@@ -74,13 +76,13 @@ on_by Cut on = false
 on_by Whole on = on
 on_by Failed on = on
 
-on-after : (hurt : Hurt) (event : Event) (before after : Bool) → on_after_event event before ≡ after → on_behind hurt event before ≡ on_by hurt after
+pub on-after : (hurt : Hurt) (event : Event) (before after : Bool) → on_after_event event before ≡ after → on_behind hurt event before ≡ on_by hurt after
 on-after Whole event before after same = same
 on-after Failed event before after same = same
 on-after Cut event before after same = refl
 
 -- without power, an event that is no access answers 0
-lost-silent : (event : Event) → IsSilent event (lost_answer event)
+pub lost-silent : (event : Event) → IsSilent event (lost_answer event)
 lost-silent (Access access) = tt
 lost-silent Tick = refl
 lost-silent (Reset cause) = refl
@@ -97,15 +99,15 @@ pub stays : (amount before now : ℕ) → now ≡ before → RisesAtMost amount 
 stays amount before now same = record { least = omega arith; most = omega arith }
 
 -- a step of a controller that is on, by its parts
-pub step-up : {F : Type 0} (kind : BusKind) (event : Event) (hurt : Hurt) (answer : ℕ) (old_bus bus new_bus : BusState) (task : Option Task) (run : RunView) (new : Held F) →
-    IsTakenUp event old_bus task bus answer run → EventTold hurt event (answer_by hurt answer (lost_answer event)) run.device (held_device new) (up_table old_bus run) (held_table kind new_bus new) →
-    is_up new ≡ on_by hurt (on_after_task task true) → held_pin new ≡ pin_after_task task run.pin → IsCalm new_bus new → IsSpent hurt run.device (held_device new) →
-    IsStepped kind event hurt (answer_by hurt answer (lost_answer event)) old_bus new_bus (Some (Up run)) (Some new)
-step-up kind event hurt answer old_bus bus new_bus task run new taken told on pin calm spent =
+pub step-up : {F : Type 0} (kind : BusKind) (event : Event) (hurt : Hurt) (answer : ℕ) (old_bus bus new_bus : BusState) (task : Option Task) (up : Awake F) (new : Held F) →
+    IsTakenUp event old_bus task bus answer (run_of up) → EventTold hurt event (answer_by hurt answer (lost_answer event)) (run_of up).device (held_device new) (up_table old_bus (run_of up)) (held_table kind new_bus new) →
+    is_up new ≡ on_by hurt (on_after_task task true) → held_pin new ≡ pin_after_task task (run_of up).pin → IsCalm new_bus new → IsSpent hurt (run_of up).device (held_device new) →
+    IsStepped kind event hurt (answer_by hurt answer (lost_answer event)) old_bus new_bus (Some (Up up)) (Some new)
+step-up kind event hurt answer old_bus bus new_bus task up new taken told on pin calm spent =
     record {
       told = told;
       on = on ∙ sym (on-after hurt event true (on_after_task task true) taken.like.on_is);
-      pin = pin ∙ sym (taken.like.pin_is run.pin);
+      pin = pin ∙ sym (taken.like.pin_is (run_of up).pin);
       off = λ up. cc;
       lost = λ cut. ap (λ (h : Hurt). answer_by h answer (lost_answer event)) cut;
       alive = λ cut. refl;
@@ -182,10 +184,10 @@ rest-down kind event pin off answer answer_is work_is = by off.device.held where
 -- an event without a task leaves what is held
 pub stepped-rest : {F : Type 0} (kind : BusKind) (event : Event) (answer : ℕ) (old_bus bus : BusState) (held : Option (Held F)) → IsTaken event old_bus None bus answer held → IsStepped kind event Whole answer old_bus bus held held
 stepped-rest kind event answer old_bus bus None taken = absurd taken
-stepped-rest {F} kind event answer old_bus bus (Some (Up run)) taken =
-    step-up {F = F} kind event Whole answer old_bus bus bus None run (Up run) taken
-    (event-told Whole event old_bus bus answer answer run.device run Rest (up_table bus run) taken.state taken.answer_is taken.task_is (rest-told bus answer (lost_answer event) run))
-    refl refl taken.calm (unspent 1024 run.device)
+stepped-rest {F} kind event answer old_bus bus (Some (Up up)) taken =
+    step-up {F = F} kind event Whole answer old_bus bus bus None up (Up up) taken
+    (event-told Whole event old_bus bus answer answer (run_of up).device (run_of up) Rest (up_table bus (run_of up)) taken.state taken.answer_is taken.task_is (rest-told bus answer (lost_answer event) (run_of up)))
+    refl refl taken.calm (unspent 1024 (run_of up).device)
 stepped-rest {F} kind event answer old_bus bus (Some (Down off pin)) taken =
     step-down {F = F} kind event Whole answer old_bus bus None off pin (Down off pin) (λ cut. cc) taken
     (rest-down kind event pin off answer taken.answer_is (taken.task_is bus)) refl refl tt (unspent 1024 off.device)
@@ -201,13 +203,13 @@ stop-told bus kind answer lost run off kind_is device_is =
           none-begun (record { state = bus; answer = answer }) lost Stop answer run.device (core_at run f) (off_table f run.pin kind) refl
           (ap (λ (k : BusKind). let a : After = record { table = off_table f run.pin k; answer = answer } in a) (sym kind_is))
 
-pub stopped-up : {F : Type 0} (kind : BusKind) (event : Event) (answer : ℕ) (old_bus bus : BusState) (run : RunView) (off : OffView) (pin : Bool) → kind_of bus ≡ kind → off.device ≡ run.device → pin ≡ run.pin →
-    IsTakenUp event old_bus (Some StopTask) bus answer run → IsStepped {F = F} kind event Whole answer old_bus bus (Some (Up run)) (Some (Down off pin))
-stopped-up {F} kind event answer old_bus bus run off pin kind_is device_is pin_is taken =
-    subst (λ (p : Bool). IsStepped {F = F} kind event Whole answer old_bus bus (Some (Up run)) (Some (Down off p))) (sym pin_is)
-    (step-up {F = F} kind event Whole answer old_bus bus bus (Some StopTask) run (Down off run.pin) taken
-    (event-told Whole event old_bus bus answer answer off.device run Stop (down_table kind run.pin off) taken.state taken.answer_is taken.task_is (stop-told bus kind answer (lost_answer event) run off kind_is device_is))
-    refl refl tt (subst (λ (device : DeviceView). IsSpent Whole run.device device) (sym device_is) (unspent 1024 run.device)))
+pub stopped-up : {F : Type 0} (kind : BusKind) (event : Event) (answer : ℕ) (old_bus bus : BusState) (up : Awake F) (off : OffView) (pin : Bool) → kind_of bus ≡ kind → off.device ≡ (run_of up).device → pin ≡ (run_of up).pin →
+    IsTakenUp event old_bus (Some StopTask) bus answer (run_of up) → IsStepped {F = F} kind event Whole answer old_bus bus (Some (Up up)) (Some (Down off pin))
+stopped-up {F} kind event answer old_bus bus up off pin kind_is device_is pin_is taken =
+    subst (λ (p : Bool). IsStepped {F = F} kind event Whole answer old_bus bus (Some (Up up)) (Some (Down off p))) (sym pin_is)
+    (step-up {F = F} kind event Whole answer old_bus bus bus (Some StopTask) up (Down off (run_of up).pin) taken
+    (event-told Whole event old_bus bus answer answer off.device (run_of up) Stop (down_table kind (run_of up).pin off) taken.state taken.answer_is taken.task_is (stop-told bus kind answer (lost_answer event) (run_of up) off kind_is device_is))
+    refl refl tt (subst (λ (device : DeviceView). IsSpent Whole (run_of up).device device) (sym device_is) (unspent 1024 (run_of up).device)))
 
 -- a change of the pin
 pin-told : (bus : BusState) (answer lost : ℕ) (on : Bool) (run : RunView) → WorkTold Whole (record { state = bus; answer = answer }) lost (SetPin on) answer run.device run (up_table bus (record run { pin = on }))
@@ -216,13 +218,14 @@ pin-told bus answer lost on run = by run.device.held where
   by None = tt
   by (Some f) = none-begun (record { state = bus; answer = answer }) lost (SetPin on) answer run.device (core_at run f) (table_of (core_at (record run { pin = on }) f) bus) refl refl
 
-pub pinned-up : {F : Type 0} (kind : BusKind) (event : Event) (on : Bool) (answer : ℕ) (old_bus bus : BusState) (run next : RunView) → next ≡ record run { pin = on } →
-    IsTakenUp event old_bus (Some (SetPinTask on)) bus answer run → IsStepped {F = F} kind event Whole answer old_bus bus (Some (Up run)) (Some (Up next))
-pinned-up {F} kind event on answer old_bus bus run next next_is taken =
-    subst (λ (r : RunView). IsStepped {F = F} kind event Whole answer old_bus bus (Some (Up run)) (Some (Up r))) (sym next_is)
-    (step-up {F = F} kind event Whole answer old_bus bus bus (Some (SetPinTask on)) run (Up (record run { pin = on })) taken
-    (event-told Whole event old_bus bus answer answer run.device run (SetPin on) (up_table bus (record run { pin = on })) taken.state taken.answer_is taken.task_is (pin-told bus answer (lost_answer event) on run))
-    refl refl taken.calm (unspent 1024 run.device))
+pub pinned-up : {F : Type 0} (kind : BusKind) (event : Event) (on : Bool) (answer : ℕ) (old_bus bus : BusState) (up later : Awake F) → run_of later ≡ record (run_of up) { pin = on } →
+    IsTakenUp event old_bus (Some (SetPinTask on)) bus answer (run_of up) → IsStepped {F = F} kind event Whole answer old_bus bus (Some (Up up)) (Some (Up later))
+pinned-up {F} kind event on answer old_bus bus up later next_is taken =
+    let told = event-told Whole event old_bus bus answer answer (run_of up).device (run_of up) (SetPin on) (up_table bus (record (run_of up) { pin = on })) taken.state taken.answer_is taken.task_is (pin-told bus answer (lost_answer event) on (run_of up)) in
+    step-up {F = F} kind event Whole answer old_bus bus bus (Some (SetPinTask on)) up (Up later) taken
+    (subst (λ (r : RunView). EventTold Whole event answer (run_of up).device r.device (up_table old_bus (run_of up)) (up_table bus r)) (sym next_is) told)
+    refl (ap (λ (r : RunView). r.pin) next_is) taken.calm
+    (subst (λ (r : RunView). IsSpent Whole (run_of up).device r.device) (sym next_is) (unspent 1024 (run_of up).device))
 
 -- only a change of the pin has a controller set it that is off, and that answers nothing
 pub record IsPin (event : Event) (on : Bool) : Type 0 where
@@ -277,11 +280,11 @@ is-some o request same = ap (λ (p : Option (List ℕ)). is_some p) same
 
 pub can-carry : {F : Type 0} (event : Event) (old_bus bus : BusState) (task : Task) (answer : ℕ) (held : Option (Held F)) → IsTaken event old_bus (Some task) bus answer held → CanCarry task bus (is_kept_up held)
 can-carry event old_bus bus task answer None taken = absurd taken
-can-carry event old_bus bus ServeTask answer (Some (Up run)) taken = is-some (waiting_request bus) taken.task_is.request taken.task_is.asked
-can-carry event old_bus bus TickTask answer (Some (Up run)) taken = tt
-can-carry event old_bus bus (BootTask cause) answer (Some (Up run)) taken = tt
-can-carry event old_bus bus StopTask answer (Some (Up run)) taken = tt
-can-carry event old_bus bus (SetPinTask on) answer (Some (Up run)) taken = tt
+can-carry event old_bus bus ServeTask answer (Some (Up up)) taken = is-some (waiting_request bus) taken.task_is.request taken.task_is.asked
+can-carry event old_bus bus TickTask answer (Some (Up up)) taken = tt
+can-carry event old_bus bus (BootTask cause) answer (Some (Up up)) taken = tt
+can-carry event old_bus bus StopTask answer (Some (Up up)) taken = tt
+can-carry event old_bus bus (SetPinTask on) answer (Some (Up up)) taken = tt
 can-carry event old_bus bus ServeTask answer (Some (Down off pin)) taken = serves-not event (taken.task_is bus).request (taken.task_is bus).serves
 can-carry event old_bus bus TickTask answer (Some (Down off pin)) taken = ticks-not (work_off event) (taken.task_is bus)
 can-carry event old_bus bus (BootTask cause) answer (Some (Down off pin)) taken = tt

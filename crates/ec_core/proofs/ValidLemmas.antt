@@ -26,6 +26,7 @@ use Rattle.ec_model.proofs.RunLaws.{guarded_bytes-leaves}
 use Rattle.ec_model.proofs.BootLaws.{boots-ro, boots-locked}
 use Rattle.ec_model.proofs.AppendLaws.{step-adds}
 use Rattle.ec_wire.specs.Calls.{Agrees}
+use Rattle.ec_boot.specs.Either.{run_of}
 use Rattle.ec_boot.specs.States.{core_at}
 use Rattle.ec_core.specs.View.{KeepsGuard, BootsRo, WearsBy, bench_at}
 use Rattle.ec_core.specs.Held.{Accounts, EventTold, kept_table, is_kept_up}
@@ -124,7 +125,7 @@ agrees-told kind bus (Some (Down off pin)) kind_is valid = by off.device.held va
   by : (o : Option (List ℕ)) → IfSome (option_map (λ flash. off_table flash pin kind) o) Valid → IfSome (option_map (λ flash. off_table flash pin kind) o) (Agrees kind false)
   by None here = tt
   by (Some f) here = record { valid = here; kind_is = refl; on_is = refl }
-agrees-told kind bus (Some (Up run)) kind_is valid = by run.device.held valid where
-  by : (o : Option (List ℕ)) → IfSome (option_map (λ flash. table_of (core_at run flash) bus) o) Valid → IfSome (option_map (λ flash. table_of (core_at run flash) bus) o) (Agrees kind true)
+agrees-told kind bus (Some (Up up)) kind_is valid = by (run_of up).device.held valid where
+  by : (o : Option (List ℕ)) → IfSome (option_map (λ flash. table_of (core_at (run_of up) flash) bus) o) Valid → IfSome (option_map (λ flash. table_of (core_at (run_of up) flash) bus) o) (Agrees kind true)
   by None here = tt
   by (Some f) here = record { valid = here; kind_is = kind_is; on_is = refl }

@@ -13,6 +13,7 @@ use Rattle.ec_model.specs.HostCalls.{on_after_event}
 use Rattle.ec_model.specs.Work.{operations_of}
 use Rattle.ec_model.specs.Played.{EventBegins}
 use Rattle.flash_dev.specs.Costs.{Costs, Account}
+use Rattle.ec_boot.specs.Either.{run_of}
 use Rattle.ec_boot.specs.States.{RunView, OffView, core_at}
 use Rattle.ec_core.specs.declared.held.Held.{Held}
 use Rattle.ec_core.specs.declared.held.Held.TheVariants.{Down, Up}
@@ -32,27 +33,27 @@ down_table kind pin off = option_map (λ flash. off_table flash pin kind) off.de
 -- the table of what is held, where the flash tells its bytes
 abbrev pub held_table : {F : Type 0} → BusKind → BusState → Held F → Option Table
 held_table kind bus (Down off pin) = down_table kind pin off
-held_table kind bus (Up run) = up_table bus run
+held_table kind bus (Up up) = up_table bus (run_of up)
 
 -- whether it is on
 abbrev pub is_up : {F : Type 0} → Held F → Bool
 is_up (Down off pin) = false
-is_up (Up run) = true
+is_up (Up up) = true
 
 -- the pin
 abbrev pub held_pin : {F : Type 0} → Held F → Bool
 held_pin (Down off pin) = pin
-held_pin (Up run) = run.pin
+held_pin (Up up) = (run_of up).pin
 
 -- the device
 abbrev pub held_device : {F : Type 0} → Held F → DeviceView
 held_device (Down off pin) = off.device
-held_device (Up run) = run.device
+held_device (Up up) = (run_of up).device
 
 -- no request is due now, where the controller is on
 abbrev pub IsCalm : {F : Type 0} → BusState → Held F → Type 0
 IsCalm bus (Down off pin) = ⊤
-IsCalm bus (Up run) = IsNone (due_now bus)
+IsCalm bus (Up up) = IsNone (due_now bus)
 
 -- the table of a controller, which always holds something
 abbrev pub kept_table : {F : Type 0} → BusKind → BusState → Option (Held F) → Option Table
@@ -101,6 +102,11 @@ answer_by Cut answer lost = lost
 answer_by Whole answer lost = answer
 answer_by Failed answer lost = answer
 
+-- the answer of an event, where power may have been lost inside it, or a request restarted the controller
+abbrev pub answer_behind : Bool → Hurt → ℕ → ℕ → ℕ
+answer_behind true hurt answer lost = lost
+answer_behind false hurt answer lost = answer_by hurt answer lost
+
 -- what an event leaves and answers, with the flash operations that it began, as the device counted them
 pub record Accounts (hurt : Hurt) (event : Event) (answer : ℕ) (device changed : DeviceView) (old new : Table) : Type 0 where
   pub begun : ℕ
@@ -125,8 +131,3 @@ on_behind Failed event before = on_after_event event before
 -- what an event costs the device: at most 1,024 bytes are read
 abbrev pub IsSpent : Hurt → DeviceView → DeviceView → Type 0
 IsSpent hurt old new = Costs hurt 1024 old new
-
--- what a boot met
-abbrev pub boot_hurt : Bool → Hurt
-boot_hurt true = Failed
-boot_hurt false = Whole

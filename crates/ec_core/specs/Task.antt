@@ -9,8 +9,9 @@ use Rattle.ec_model.specs.HostCalls.{on_after_event}
 use Rattle.ec_model.specs.Guarded.{pin_after}
 use Rattle.ec_model.specs.Work.{Work, Rest, Serve, Boot, Stop, SetPin, idle_work, work_on, work_off, bus_after, lost_answer}
 use Rattle.ec_wire.specs.Dues.{waiting_request}
+use Rattle.ec_boot.specs.Either.{run_of}
 use Rattle.ec_boot.specs.States.{RunView}
-use Rattle.ec_core.specs.Held.{awake_of, kept_table, kept_device, kept_pin, is_kept_up, IsKept, IsSpent, IsSilent, EventTold, answer_by, on_behind}
+use Rattle.ec_core.specs.Held.{awake_of, kept_table, kept_device, kept_pin, is_kept_up, IsKept, IsSpent, IsSilent, EventTold, answer_behind, on_behind}
 use Rattle.ec_core.specs.declared.held.Held.{Held}
 use Rattle.ec_core.specs.declared.held.Held.TheVariants.{Down, Up}
 use Rattle.ec_core.specs.declared.task.Task.{Task}
@@ -79,7 +80,7 @@ pub record IsTakenDown (event : Event) (task : Option Task) (answer : ℕ) : Typ
 -- a controller took an event
 abbrev pub IsTaken : {F : Type 0} → Event → BusState → Option Task → BusState → ℕ → Option (Held F) → Type 0
 IsTaken event old_bus task bus answer None = ⊥
-IsTaken event old_bus task bus answer (Some (Up run)) = IsTakenUp event old_bus task bus answer run
+IsTaken event old_bus task bus answer (Some (Up up)) = IsTakenUp event old_bus task bus answer (run_of up)
 IsTaken event old_bus task bus answer (Some (Down off pin)) = IsTakenDown event task answer
 
 -- what an event made of what a controller holds, and answered
@@ -95,7 +96,7 @@ pub record IsStepped {F : Type 0} (kind : BusKind) (event : Event) (hurt : Hurt)
   pub spent : IsSpent hurt (kept_device old) (kept_device new)
 
 -- what a task made of what a controller holds, for each event that it is the task of
-abbrev pub IsCarried : {F : Type 0} → BusKind → Task → Hurt → BusState → BusState → Option (Held F) → Option (Held F) → Type 0
-IsCarried kind task hurt bus new_bus old new =
+abbrev pub IsCarried : {F : Type 0} → BusKind → Task → Hurt → Bool → BusState → BusState → Option (Held F) → Option (Held F) → Type 0
+IsCarried kind task hurt restarted bus new_bus old new =
     (event : Event) (old_bus : BusState) (answer : ℕ) → IsTaken event old_bus (Some task) bus answer old →
-    IsStepped kind event hurt (answer_by hurt answer (lost_answer event)) old_bus new_bus old new
+    IsStepped kind event hurt (answer_behind restarted hurt answer (lost_answer event)) old_bus new_bus old new

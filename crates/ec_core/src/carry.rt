@@ -2,29 +2,40 @@
 ghost use Rattle.std.specs.Prelude.{◌≡◌, Some, IsSome, true, false};
 ghost use Rattle.ec_model.specs.Bus.{fresh_bus};
 ghost use Rattle.ec_core.specs.declared.held.Held.TheVariants.{Up, Down};
-ghost use Rattle.ec_core.specs.Held.{boot_hurt, is_up, is_kept_up};
+ghost use Rattle.ec_boot.specs.declared.awake.Awake.TheVariants.{Ro};
+ghost use Rattle.command_table.specs.After.{boot_hurt};
+ghost use Rattle.ec_core.specs.Held.{is_up, is_kept_up};
 ghost use Rattle.ec_core.specs.Task.{IsCarried, CanCarry};
 
 use crate::held::Held;
 use crate::serve::serve;
 use crate::task::Task;
 use crate::tick::tick;
-use ec_boot::{InRo, Off, Running};
+use ec_boot::{Awake, InRo, Off, Running};
 use ec_model::Hurt;
 use ec_wire::Bus;
 use flash_dev::FlashDev;
 
-/// What is held once a task is done, and what a flash call did.
+/// What is held once a task is done, what a flash call did, and whether a request restarted the controller.
 pub struct Carried<F: FlashDev> {
     pub held: Held<F>,
     pub hurt: Hurt,
+    pub restarted: bool,
+}
+
+/// How a task ended: what a flash call did, and whether a request restarted the controller.
+#[derive(Clone, Copy)]
+pub struct End {
+    pub hurt: Hurt,
+    pub restarted: bool,
 }
 
 // A controller that booted gets a fresh bus. A flash call failed where the stored protection could not be read.
 fn booted<B: Bus + Drop, F: FlashDev>(on: InRo<F>, bus: &mut B) -> Carried<F>
     ensures bus { B.state bus.new ≡ fresh_bus B.bus }
-    ensures held { result.held ≡ Up on }
+    ensures held { result.held ≡ Up (Ro on) }
     ensures hurt { result.hurt ≡ boot_hurt on.live.pstate_bad }
+    ensures restarted { result.restarted ≡ false }
 {
     *bus = B::fresh();
     let hurt = if on.live().pstate_bad {
@@ -33,15 +44,16 @@ fn booted<B: Bus + Drop, F: FlashDev>(on: InRo<F>, bus: &mut B) -> Carried<F>
         Hurt::Whole
     };
     Carried {
-        held: Held::Up(on),
+        held: Held::Up(Awake::Ro(on)),
         hurt,
+        restarted: false,
     }
 }
 
 // A task of a controller that is on.
-fn carry_up<B: Bus + Drop, F: FlashDev>(mut on: InRo<F>, bus: &mut B, task: Task) -> Carried<F>
+fn carry_up<B: Bus + Drop, F: FlashDev>(mut on: Awake<F>, bus: &mut B, task: Task) -> Carried<F>
     requires { CanCarry task (B.state bus.old) true }
-    ensures { IsCarried B.bus task result.hurt (B.state bus.old) (B.state bus.new) (Some (Up on)) (Some result.held) }
+    ensures { IsCarried B.bus task result.hurt result.restarted (B.state bus.old) (B.state bus.new) (Some (Up on)) (Some result.held) }
 {
     match task {
         Task::Serve => serve(on, bus),
@@ -52,6 +64,7 @@ fn carry_up<B: Bus + Drop, F: FlashDev>(mut on: InRo<F>, bus: &mut B, task: Task
             Carried {
                 held: Held::Down { off: on.cut(), pin },
                 hurt: Hurt::Whole,
+                restarted: false,
             }
         }
         Task::SetPin { on: level } => {
@@ -59,6 +72,7 @@ fn carry_up<B: Bus + Drop, F: FlashDev>(mut on: InRo<F>, bus: &mut B, task: Task
             Carried {
                 held: Held::Up(on),
                 hurt: Hurt::Whole,
+                restarted: false,
             }
         }
     }
@@ -72,13 +86,14 @@ fn carry_down<B: Bus + Drop, F: FlashDev>(
     task: Task,
 ) -> Carried<F>
     requires { CanCarry task (B.state bus.old) false }
-    ensures { IsCarried B.bus task result.hurt (B.state bus.old) (B.state bus.new) (Some (Down off pin)) (Some result.held) }
+    ensures { IsCarried B.bus task result.hurt result.restarted (B.state bus.old) (B.state bus.new) (Some (Down off pin)) (Some result.held) }
 {
     match task {
         Task::Boot { cause: _ } => booted(off.power_on(pin), bus),
         Task::SetPin { on } => Carried {
             held: Held::Down { off, pin: on },
             hurt: Hurt::Whole,
+            restarted: false,
         },
         Task::Serve | Task::Tick | Task::Stop => unreachable!(),
     }
@@ -87,7 +102,7 @@ fn carry_down<B: Bus + Drop, F: FlashDev>(
 // A task.
 fn carry<B: Bus + Drop, F: FlashDev>(held: Held<F>, bus: &mut B, task: Task) -> Carried<F>
     requires { CanCarry task (B.state bus.old) (is_up held) }
-    ensures { IsCarried B.bus task result.hurt (B.state bus.old) (B.state bus.new) (Some held) (Some result.held) }
+    ensures { IsCarried B.bus task result.hurt result.restarted (B.state bus.old) (B.state bus.new) (Some held) (Some result.held) }
 {
     match held {
         Held::Up(on) => carry_up(on, bus, task),
@@ -95,22 +110,26 @@ fn carry<B: Bus + Drop, F: FlashDev>(held: Held<F>, bus: &mut B, task: Task) -> 
     }
 }
 
-/// Does a task on what a controller holds. Gives what a flash call did.
+/// Does a task on what a controller holds. Gives how it ended.
 #[inline(never)]
 pub fn carry_out<B: Bus + Drop, F: FlashDev>(
     held: &mut Option<Held<F>>,
     bus: &mut B,
     task: Task,
-) -> Hurt
+) -> End
     requires held { IsSome held.old }
     requires task { CanCarry task (B.state bus.old) (is_kept_up held.old) }
-    ensures { IsCarried B.bus task result (B.state bus.old) (B.state bus.new) held.old held.new }
+    ensures { IsCarried B.bus task result.hurt result.restarted (B.state bus.old) (B.state bus.new) held.old held.new }
 {
     match held.take() {
         Some(before) => {
-            let Carried { held: after, hurt } = carry(before, bus, task);
+            let Carried {
+                held: after,
+                hurt,
+                restarted,
+            } = carry(before, bus, task);
             match held.replace(after) {
-                None => hurt,
+                None => End { hurt, restarted },
                 Some(_) => unreachable!(),
             }
         }

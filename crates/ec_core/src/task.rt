@@ -1,13 +1,14 @@
 // What an event has the controller do.
-ghost use Rattle.std.specs.Prelude.{◌≡◌, IsNone, IsTrue, is_none};
+ghost use Rattle.std.specs.Prelude.{◌≡◌, IsNone, IsTrue};
 ghost use Rattle.ec_model.specs.Bus.{due_now};
 ghost use Rattle.ec_model.specs.Work.{cause_of, lost_answer, idle_work, Rest};
+ghost use Rattle.ec_boot.specs.Either.{run_of};
 ghost use Rattle.ec_core.specs.Held.{IsKept};
 ghost use Rattle.ec_core.specs.Task.{IsTaken, IsTakenUp, IsTakenDown};
 
 use crate::held::Held;
-use ec_boot::{InRo, Running};
-use ec_model::{Event, WorldReset};
+use ec_boot::{Awake, Running};
+use ec_model::{Event, HashView, WorldReset};
 use ec_types::ResetCause;
 use ec_wire::{Bus, Due};
 use flash_dev::FlashDev;
@@ -50,18 +51,18 @@ pub fn answer_without_power(event: Event) -> u8
     }
 }
 
-// Whether a tick that serves no request has nothing to do, since no erase is pending. No command starts a hash.
-fn rests<F: FlashDev>(on: &InRo<F>) -> bool
-    ensures exact { result ≡ is_none on.now.live.erase }
-    ensures rest { IsTrue result → idle_work on.now.live.erase on.now.live.hash ≡ Rest }
+// Whether a tick that serves no request has nothing to do: no erase is pending, and no hash is busy.
+fn rests<F: FlashDev>(on: &Awake<F>) -> bool
+    ensures rest { IsTrue result → idle_work (run_of on.now).live.erase (run_of on.now).live.hash ≡ Rest }
 {
-    on.live().erase.is_none()
+    let live = on.live();
+    live.erase.is_none() && !matches!(live.hash, HashView::Busy { .. })
 }
 
 // What an event has a controller do that is on. A tick that has nothing to do leaves it where it is.
-fn task_when_on<B: Bus, F: FlashDev>(on: &InRo<F>, bus: &mut B, event: Event) -> Taken
+fn task_when_on<B: Bus, F: FlashDev>(on: &Awake<F>, bus: &mut B, event: Event) -> Taken
     requires { IsNone (due_now (B.state bus.old)) }
-    ensures { IsTakenUp event (B.state bus.old) result.task (B.state bus.new) result.answer on.now }
+    ensures { IsTakenUp event (B.state bus.old) result.task (B.state bus.new) result.answer (run_of on.now) }
 {
     match event {
         Event::Access { a } => {

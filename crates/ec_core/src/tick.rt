@@ -6,31 +6,32 @@ ghost use Rattle.ec_core.specs.Task.{IsCarried};
 
 use crate::carry::Carried;
 use crate::held::Held;
-use ec_boot::{InRo, Running};
+use ec_boot::{Awake, Running};
 use ec_model::Hurt;
 use ec_wire::Bus;
 use flash_dev::{DevErr, FlashDev};
 
-/// Does a tick that serves no request: the next block of a pending erase, which may fail, or lose the power. The bus stays
-/// as it is.
-pub fn tick<B: Bus, F: FlashDev>(mut on: InRo<F>, bus: &B) -> Carried<F>
-    ensures { IsCarried B.bus Tick result.hurt (B.state bus.now) (B.state bus.now) (Some (Up on)) (Some result.held) }
+/// Does a tick that serves no request: the next block of a pending erase, which may fail, or lose the power; or the next
+/// bytes of a hash, whose read may fail. The bus stays as it is.
+pub fn tick<B: Bus, F: FlashDev>(mut on: Awake<F>, bus: &B) -> Carried<F>
+    ensures { IsCarried B.bus Tick result.hurt result.restarted (B.state bus.now) (B.state bus.now) (Some (Up on)) (Some result.held) }
 {
-    // No command starts a hash.
-    let _live = on.live();
     let pin = on.pin();
     match on.tick() {
         Ok(()) => Carried {
             held: Held::Up(on),
             hurt: Hurt::Whole,
+            restarted: false,
         },
         Err(DevErr::Failed) => Carried {
             held: Held::Up(on),
             hurt: Hurt::Failed,
+            restarted: false,
         },
         Err(DevErr::PowerLost) => Carried {
             held: Held::Down { off: on.cut(), pin },
             hurt: Hurt::Cut,
+            restarted: false,
         },
     }
 }

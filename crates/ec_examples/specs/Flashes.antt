@@ -36,3 +36,11 @@ image_v2 =
 -- a flash with that image in RW
 abbrev pub with_image : List ℕ → List ℕ
 with_image flash = overwritten 0x8000 image_v2 flash
+
+-- a flash with this reset vector in RW's head
+abbrev pub with_vector : ℕ → List ℕ → List ℕ
+with_vector vector flash = overwritten 0x8004 (u32_bytes vector) flash
+
+-- a flash with this reset vector, and the version `snow_v1`, in RO's head
+abbrev pub with_ro : ℕ → List ℕ → List ℕ
+with_ro vector flash = overwritten 4 (u32_bytes vector ++ 0x73 ∷ 0x6E ∷ 0x6F ∷ 0x77 ∷ 0x5F ∷ 0x76 ∷ 0x31 ∷ 0 ∷ []) flash

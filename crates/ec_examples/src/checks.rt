@@ -1,8 +1,8 @@
 // The checks before a command's row: framing, command, version, pending erase, body.
-ghost use Rattle.std.specs.Prelude.{◌≡◌, [], ◌∷◌, ◌++◌, replicate};
-ghost use Rattle.ec_model.specs.Commands.{line, CmdVersions, FlashErase, Comms, RegionInfo, Resend};
+ghost use Rattle.std.specs.Prelude.{◌≡◌, [], ◌∷◌, ◌++◌, map, replicate, Some, None, Ok, Err};
+ghost use Rattle.ec_model.specs.Commands.{line, known, Version, CmdVersions, FlashErase, Comms, RegionInfo, Resend};
 ghost use Rattle.ec_model.specs.Packet.{request_packet};
-ghost use Rattle.ec_model.specs.Bodies.{hello_ask, cmd_versions_ask0, cmd_versions_ask1, region_info_ask};
+ghost use Rattle.ec_model.specs.Bodies.{hello_ask, cmd_versions_ask0, cmd_versions_ask1, region_info_ask, reboot_ask};
 ghost use Rattle.ec_model.specs.Handle.{asked, admitted_by};
 ghost use Rattle.ec_model.specs.Erasing.{with_job};
 ghost use Rattle.ec_examples.specs.Flashes.{e64};
@@ -41,6 +41,20 @@ pub fn versions_that_are_offered()
     ensures offered { asked (on e64) (request_packet 0x16 1 (region_info_ask 2)) ≡
         Ok (record { command = RegionInfo; version = 1; body = region_info_ask 2 }) }
     ensures later { asked (on e64) (request_packet 0x10 2 []) ≡ Err 6 }
+{}
+
+/// The commands that tell of the images, hash and reset have version 0 alone, and their bodies a length of their own.
+pub fn commands_of_the_images()
+    ensures known { map known (0x02 ∷ 0x1C ∷ 0x2A ∷ 0xD2 ∷ 0x03 ∷ 0xD3 ∷ []) ≡ Some 1 ∷ Some 1 ∷ Some 1 ∷ Some 1 ∷ None ∷ None ∷ [] }
+    ensures version { asked (on e64) (request_packet 0x02 0 []) ≡ Ok (record { command = Version; version = 0; body = [] }) }
+    ensures version_long { asked (on e64) (request_packet 0x02 0 (0 ∷ [])) ≡ Err 3 }
+    ensures sysinfo_one { asked (on e64) (request_packet 0x1C 1 []) ≡ Err 6 }
+    ensures sysinfo_long { asked (on e64) (request_packet 0x1C 0 (0 ∷ [])) ≡ Err 3 }
+    ensures hash_short { asked (on e64) (request_packet 0x2A 0 (replicate 75 0)) ≡ Err 3 }
+    ensures hash_long { asked (on e64) (request_packet 0x2A 0 (replicate 77 0)) ≡ Err 3 }
+    ensures reboot_short { asked (on e64) (request_packet 0xD2 0 (4 ∷ [])) ≡ Err 3 }
+    ensures reboot_long { asked (on e64) (request_packet 0xD2 0 (4 ∷ 0 ∷ 0 ∷ [])) ≡ Err 3 }
+    ensures reboot_erasing { asked (with_job (Some (record { next = 8; left = 8 })) 9 (on e64)) (request_packet 0xD2 0 (reboot_ask 4 0)) ≡ Err 16 }
 {}
 
 /// The body of GET_CMD_VERSIONS has one byte in version 0 and two in version 1.

@@ -1,13 +1,16 @@
 // VBOOT_HASH: which ranges are hashed, by how many ticks, and what drops a hash.
-ghost use Rattle.std.specs.Prelude.{◌≡◌, [], ◌∷◌, replicate, Some, None};
+ghost use Rattle.std.specs.Prelude.{◌≡◌, false, [], ◌∷◌, replicate, Some, None};
+ghost use Rattle.sha2.specs.Sha256.{sha256};
+ghost use Rattle.ec_types.specs.declared.reset.ResetCause.TheVariants.{PowerOn};
 ghost use Rattle.ec_model.specs.declared.live.HashView.TheVariants.{Idle, Busy, Done};
-ghost use Rattle.ec_model.specs.Commands.{FlashWrite, VbootHash};
-ghost use Rattle.ec_model.specs.Bodies.{flash_write_ask, vboot_hash_ask};
+ghost use Rattle.ec_model.specs.Commands.{FlashWrite, VbootHash, Reboot};
+ghost use Rattle.ec_model.specs.Bodies.{flash_write_ask, vboot_hash_ask, reboot_ask};
 ghost use Rattle.ec_model.specs.Hash.{with_hash};
 ghost use Rattle.ec_model.specs.HashRow.{hash_range};
+ghost use Rattle.ec_model.specs.Boot.{fresh_live};
 ghost use Rattle.ec_model.specs.Jump.{kept_hash};
 ghost use Rattle.ec_examples.specs.Flashes.{e64};
-ghost use Rattle.ec_examples.specs.Cores.{on, ticked};
+ghost use Rattle.ec_examples.specs.Cores.{on, reset, ticked};
 ghost use Rattle.ec_examples.specs.Replies.{replies, core_after};
 
 /// A range of 1,025 bytes takes two ticks; then its digest, that of the nonce "abc" and 1,025 bytes 0xFF, is shown with the
@@ -50,6 +53,27 @@ pub fn hashes_that_are_dropped()
         Done 0x8000 4 (replicate 32 7) }
     ensures abort { replies ((VbootHash, 0, vboot_hash_ask 1 9 9 9 9 9 (replicate 64 9)) ∷ (VbootHash, 0, vboot_hash_ask 0 0 0 0 0 0 (replicate 64 0)) ∷ [])
         (with_hash (Busy 0x8000 4 1) [] (on e64)) ≡ (0, []) ∷ (0, replicate 76 0) ∷ [] }
+{}
+
+/// A boot begins to hash all of RW, with no nonce: behind a power-on, a reset and a COLD, whatever hash there was, and on the largest
+/// flash. GET says that it is busy.
+pub fn hash_of_a_boot()
+    ensures power { (on e64).live.hash ≡ Busy 0x8000 0x8000 32 }
+    ensures nonce { (on e64).nonce ≡ [] }
+    ensures pin { (reset e64).live.hash ≡ Busy 0x8000 0x8000 32 }
+    ensures cold { (core_after ((Reboot, 0, reboot_ask 4 0) ∷ []) (with_hash (Done 0x8000 4 (replicate 32 7)) [] (on e64))).live.hash ≡
+        Busy 0x8000 0x8000 32 }
+    ensures largest { (fresh_live 4194304 PowerOn false false false).hash ≡ Busy 0x200000 0x200000 2048 }
+    ensures shown { replies ((VbootHash, 0, vboot_hash_ask 0 0 0 0 0 0 (replicate 64 0)) ∷ []) (on e64) ≡ (0, 2 ∷ replicate 75 0) ∷ [] }
+{}
+
+/// It takes 32 ticks in a flash of 65,536 bytes. A write of the stored protection leaves it, and one of RW drops it.
+pub fn ticks_of_the_hash_of_a_boot()
+    ensures busy { (ticked 31 (on e64)).live.hash ≡ Busy 0x8000 0x8000 1 }
+    ensures done { (ticked 32 (on e64)).live.hash ≡ Done 0x8000 0x8000 (sha256 (replicate 32768 0xFF)) }
+    ensures beside { (core_after ((FlashWrite, 1, flash_write_ask 0x7000 (replicate 4 0)) ∷ []) (on e64)).live.hash ≡ Busy 0x8000 0x8000 32 }
+    ensures over { replies ((FlashWrite, 1, flash_write_ask 0x8000 (replicate 4 0)) ∷ (VbootHash, 0, vboot_hash_ask 0 0 0 0 0 0 (replicate 64 0)) ∷ [])
+        (on e64) ≡ (0, []) ∷ (0, replicate 76 0) ∷ [] }
 {}
 
 /// A jump keeps a finished hash, and drops a busy one.

@@ -65,12 +65,12 @@ pub fn erase_that_fails()
 {}
 
 /// Power that is lost inside a block of an erase leaves the blocks behind it as they were, and the power-on does not go on with
-/// them: the ticks that follow erase nothing.
+/// them: the nine ticks that follow erase nothing, and go on with the hash of RW alone.
 pub fn erase_that_is_cut()
     ensures cut { IsStep (table_of (with_job (Some (record { next = 8; left = 8 })) 9 (on (overwritten 0x9000 (replicate 16 0) e64))) (fresh_bus Lpc)) (Step Tick 0 0 0 Cut)
         (off_table (overwritten 0x8FFF (0x00 ∷ []) (overwritten 0x9000 (replicate 16 0) e64)) true Lpc) }
     ensures behind { table_after (off_table (overwritten 0x8FFF (replicate 17 0) e64) true Lpc) (Power true ∷ replicate 9 Tick) ≡
-        booted_table (overwritten 0x8FFF (replicate 17 0) e64) true Lpc PowerOn false }
+        table_of (with_hash (Busy 0x8000 0x8000 23) [] (on (overwritten 0x8FFF (replicate 17 0) e64))) (fresh_bus Lpc) }
 {}
 
 /// Power that is lost inside the program of the mark may leave both bits stored as version 1, or none.

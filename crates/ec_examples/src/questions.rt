@@ -1,8 +1,8 @@
 // The commands that only ask.
 ghost use Rattle.std.specs.Prelude.{◌≡◌, [], ◌∷◌, ◌++◌, replicate};
-ghost use Rattle.ec_model.specs.Commands.{Proto, Version, Chip, CmdVersions, Comms, Test, ProtoInfo, FlashInfo, FlashErase, RegionInfo, Resend};
-ghost use Rattle.ec_model.specs.Bodies.{cmd_versions_ask0, cmd_versions_ask1, test_ask, region_info_ask, flash_erase_ask, version_say};
-ghost use Rattle.ec_examples.specs.Flashes.{e64, with_image};
+ghost use Rattle.ec_model.specs.Commands.{Proto, Version, Chip, CmdVersions, Comms, Test, ProtoInfo, FlashInfo, FlashErase, RegionInfo, Sysinfo, Reboot, Resend};
+ghost use Rattle.ec_model.specs.Bodies.{cmd_versions_ask0, cmd_versions_ask1, test_ask, region_info_ask, flash_erase_ask, version_say, reboot_ask};
+ghost use Rattle.ec_examples.specs.Flashes.{e64, g64, with_image, with_ro};
 ghost use Rattle.ec_examples.specs.Cores.{on};
 ghost use Rattle.ec_examples.specs.Replies.{replies, replies_within};
 
@@ -22,14 +22,14 @@ pub fn fixed_answers()
         (0, 0 ∷ 0 ∷ 1 ∷ 0 ∷ 4 ∷ 0 ∷ 0 ∷ 0 ∷ 0 ∷ 0x10 ∷ 0 ∷ 0 ∷ 0 ∷ 0x10 ∷ 0 ∷ 0 ∷ 64 ∷ 0 ∷ 0 ∷ 0 ∷ 0 ∷ 0 ∷ 0 ∷ 0 ∷ []) ∷ [] }
 {}
 
-/// The versions of a command: FLASH_WRITE and GET_CMD_VERSIONS have 0 and 1, HELLO has 0, FLASH_REGION_INFO has 1 alone, and
-/// 0xFFF is no command.
+/// The versions of a command: FLASH_WRITE and GET_CMD_VERSIONS have 0 and 1, HELLO and REBOOT_EC have 0, FLASH_REGION_INFO has 1
+/// alone, and 0xFFF is no command.
 pub fn versions_of_commands()
     ensures { replies ((CmdVersions, 0, cmd_versions_ask0 0x12) ∷ (CmdVersions, 1, cmd_versions_ask1 0x12) ∷ (CmdVersions, 1, cmd_versions_ask1 0x01) ∷
-        (CmdVersions, 1, cmd_versions_ask1 0x16) ∷ (CmdVersions, 0, cmd_versions_ask0 0x08) ∷ (CmdVersions, 1, cmd_versions_ask1 0xFFF) ∷ [])
+        (CmdVersions, 1, cmd_versions_ask1 0x16) ∷ (CmdVersions, 0, cmd_versions_ask0 0x08) ∷ (CmdVersions, 1, cmd_versions_ask1 0xD2) ∷ (CmdVersions, 1, cmd_versions_ask1 0xFFF) ∷ [])
         (on e64) ≡
         (0, 3 ∷ 0 ∷ 0 ∷ 0 ∷ []) ∷ (0, 3 ∷ 0 ∷ 0 ∷ 0 ∷ []) ∷ (0, 1 ∷ 0 ∷ 0 ∷ 0 ∷ []) ∷ (0, 2 ∷ 0 ∷ 0 ∷ 0 ∷ []) ∷ (0, 3 ∷ 0 ∷ 0 ∷ 0 ∷ []) ∷
-        (3, []) ∷ [] }
+        (0, 1 ∷ 0 ∷ 0 ∷ 0 ∷ []) ∷ (3, []) ∷ [] }
 {}
 
 /// The regions: RO without the stored protection, RW twice, and all that write protection guards.
@@ -47,10 +47,24 @@ pub fn tests_of_the_protocol()
         (0, 10 ∷ 11 ∷ 12 ∷ 13 ∷ []) ∷ (0, replicate 32 7) ∷ (20, []) ∷ (3, []) ∷ [] }
 {}
 
-/// A version is told up to its first byte that is not printable; an erased one is empty.
+/// A version is told up to its first byte that is not printable; an erased one is empty. Behind a jump RW is told to run.
 pub fn versions_of_the_images()
-    ensures { replies ((Version, 0, []) ∷ []) (on (with_image e64)) ≡
+    ensures blank { replies ((Version, 0, []) ∷ []) (on e64) ≡ (0, version_say (replicate 32 0) (replicate 32 0) (replicate 32 0) 1) ∷ [] }
+    ensures ro { replies ((Version, 0, []) ∷ []) (on (with_ro 0x100 e64)) ≡
+        (0, version_say (0x73 ∷ 0x6E ∷ 0x6F ∷ 0x77 ∷ 0x5F ∷ 0x76 ∷ 0x31 ∷ replicate 25 0) (replicate 32 0) (replicate 32 0) 1) ∷ [] }
+    ensures jumped { replies ((Reboot, 0, reboot_ask 2 0) ∷ (Version, 0, []) ∷ []) (on (with_image e64)) ≡
+        (0, []) ∷ (0, version_say (replicate 32 0) (0x76 ∷ 0x32 ∷ replicate 30 0) (replicate 32 0) 2) ∷ [] }
+    ensures rw { replies ((Version, 0, []) ∷ []) (on (with_image e64)) ≡
         (0, version_say (replicate 32 0) (0x76 ∷ 0x32 ∷ replicate 30 0) (replicate 32 0) 1) ∷ [] }
+{}
+
+/// The flags of the reset, the image that runs, and whether it is locked, may jump, and was jumped to: in RO behind a power-on,
+/// in RO that is locked, and in RW.
+pub fn what_the_system_is()
+    ensures ro { replies ((Sysinfo, 0, []) ∷ []) (on e64) ≡ (0, 0x08 ∷ 0 ∷ 0 ∷ 0 ∷ 1 ∷ 0 ∷ 0 ∷ 0 ∷ 4 ∷ 0 ∷ 0 ∷ 0 ∷ []) ∷ [] }
+    ensures locked { replies ((Sysinfo, 0, []) ∷ []) (on g64) ≡ (0, 0x08 ∷ 0 ∷ 0 ∷ 0 ∷ 1 ∷ 0 ∷ 0 ∷ 0 ∷ 5 ∷ 0 ∷ 0 ∷ 0 ∷ []) ∷ [] }
+    ensures rw { replies ((Reboot, 0, reboot_ask 2 0) ∷ (Sysinfo, 0, []) ∷ []) (on (with_image g64)) ≡
+        (0, []) ∷ (0, 0x08 ∷ 4 ∷ 0 ∷ 0 ∷ 2 ∷ 0 ∷ 0 ∷ 0 ∷ 0x0D ∷ 0 ∷ 0 ∷ 0 ∷ []) ∷ [] }
 {}
 
 /// An erase that is asked for is shown as pending, and its status is not known yet.

@@ -46,7 +46,7 @@ drop-overwritten at bytes flash inside =
     drop-append-drop (at + length bytes) flash (take at flash ++ bytes) (at + length bytes) (omega arith) front
 
 -- an operation is made in its range
-operated-torn : (operation : Operation) (flash : List ℕ) → IsAbove 0 (length flash) operation → Torn (operation_range operation).at (operation_range operation).size flash (operated operation flash)
+pub operated-torn : (operation : Operation) (flash : List ℕ) → IsAbove 0 (length flash) operation → Torn (operation_range operation).at (operation_range operation).size flash (operated operation flash)
 operated-torn operation flash inside =
     record {
       same_length = length-operated 0 operation flash inside;

@@ -59,7 +59,7 @@ free_within size live small large above below free =
       by_lock false apart = refl
 
 -- what is left of a valid erase is valid
-left-erasable : (size : ℕ) (live : Live) (job : EraseJob) → IsErasable size live (Some job) → IsErasable size live (job_left job)
+pub left-erasable : (size : ℕ) (live : Live) (job : EraseJob) → IsErasable size live (Some job) → IsErasable size live (job_left job)
 left-erasable size live job valid =
     if_cases (IsErasable size live) (nat_le job.left 1) None _ (λ last. tt)
     (λ more.

@@ -6,11 +6,12 @@ use Rattle.ec_types.specs.declared.bus.BusKind.{BusKind}
 use Rattle.ec_types.specs.declared.bus.BusKind.TheVariants.{Lpc, I2c, Spi}
 use Rattle.ec_types.specs.declared.reset.ResetCause.{ResetCause}
 use Rattle.ec_model.specs.declared.live.EraseJob.{EraseJob}
-use Rattle.ec_model.specs.Ranges.{is_flash_size}
+use Rattle.ec_model.specs.declared.live.HashView.TheVariants.{Busy}
+use Rattle.ec_model.specs.Ranges.{is_flash_size, rw_range}
 use Rattle.ec_model.specs.Packet.{RequestView, framing}
 use Rattle.ec_model.specs.Commands.{Command, CommandLine, line_of, offers, is_spelled, is_write_spelled, is_answered_while_erasing, Comms, FlashWrite, FlashProtect, Resend}
 use Rattle.ec_model.specs.Bus.{BusState, fresh_bus}
-use Rattle.ec_model.specs.Table.{Core, Valid, IsBusValid, table_of}
+use Rattle.ec_model.specs.Table.{Core, Valid, IsBusValid, IsHashable, ticks_of, table_of}
 use Rattle.ec_model.specs.Boot.{booted, booted_table, boots_ro_locked}
 use Rattle.ec_model.specs.Stored.{stored}
 use Rattle.ec_model.specs.Operations.{pieces}
@@ -18,6 +19,7 @@ use Rattle.ec_model.specs.FlashRows.{write_refusal, write_operations}
 use Rattle.ec_model.specs.Handle.{Admitted, admitted_by, admitted_from, asked, row, row_of, row_operations, operations_by, handled}
 use Rattle.ec_model.proofs.GuardLemmas.{AllAbove}
 use Rattle.ec_model.proofs.GuardSteps.{if_cases, and_parts, accepted, same_size, pieces-above}
+use Rattle.ec_model.proofs.GuardStep.{size_bound}
 use Rattle.ec_model.proofs.GuardWork.{passed, ok-injective, spelled_from}
 use Rattle.ec_model.proofs.ValidRows.{IsCoreValid, ValidOutcome, row-valid, resend-valid, protect-inside}
 use Rattle.ec_model.proofs.ShortRows.{IsShort, row-short}
@@ -33,6 +35,12 @@ fresh-valid Lpc = (refl, refl)
 fresh-valid I2c = omega arith
 fresh-valid Spi = tt
 
+-- the hash that a boot begins lies in the flash, and has all its ticks to come
+hashed-valid : (size : ℕ) → is_flash_size size ≡ true → IsHashable size (Busy (rw_range size).at (rw_range size).size (ticks_of (rw_range size).size)) []
+hashed-valid size allowed =
+    let large = size_bound size allowed in
+    (omega arith, omega arith, omega arith, omega arith, omega arith)
+
 -- a boot gives a valid core
 booted-valid : (flash : List ℕ) (pin : Bool) (cause : ResetCause) (unread : Bool) → is_flash_size (length flash) ≡ true → IsCoreValid (booted flash pin cause unread)
 booted-valid flash pin cause unread size =
@@ -41,7 +49,7 @@ booted-valid flash pin cause unread size =
       all_with_ro = λ all. (and_parts (boots_ro_locked flash pin unread) (not unread) (and_parts (boots_ro_locked flash pin unread && not unread) (stored flash).all all).0).0;
       jumped = λ runs. cc;
       erase = tt;
-      hash = refl;
+      hash = hashed-valid (length flash) size;
       saved = omega arith;
     }
 

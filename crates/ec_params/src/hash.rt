@@ -8,9 +8,9 @@ use ec_packet::Packet;
 /// VBOOT_HASH's request.
 #[derive(Clone, Copy, Debug, PartialEq, Eq)]
 pub struct VbootHashAsk {
-    /// 0 get, 1 abort, 2 start.
+    /// `GET`, `ABORT` or `START`.
     pub cmd: u8,
-    /// 0 is SHA-256.
+    /// `TYPE_SHA256`.
     pub hash_type: u8,
     /// How many bytes of the nonce are hashed first.
     pub nonce_size: u8,
@@ -24,6 +24,21 @@ pub struct VbootHashAsk {
 }
 
 impl VbootHashAsk {
+    /// The hash is shown. EC_VBOOT_HASH_GET
+    pub const GET: u8 = 0;
+    /// Any hash is dropped. EC_VBOOT_HASH_ABORT
+    pub const ABORT: u8 = 1;
+    /// A hash of a range begins, and is shown. EC_VBOOT_HASH_START
+    pub const START: u8 = 2;
+    /// The one type of hash. EC_VBOOT_HASH_TYPE_SHA256
+    pub const TYPE_SHA256: u8 = 0;
+    /// The offset that names the RO image. EC_VBOOT_HASH_OFFSET_RO
+    pub const OFFSET_RO: u32 = 0xFFFF_FFFE;
+    /// The offset that names the RW image. EC_VBOOT_HASH_OFFSET_ACTIVE
+    pub const OFFSET_RW: u32 = 0xFFFF_FFFD;
+    /// How many bytes a nonce has at most.
+    pub const LONGEST_NONCE: u8 = 64;
+
     /// The fields that the bytes spell; None exactly where they are not 76 bytes.
     pub fn read(bytes: &[u8]) -> Option<Self>
         ensures some { IsSome result ↔ (length bytes.now ≡ 76) }
@@ -71,9 +86,9 @@ impl VbootHashAsk {
 /// VBOOT_HASH's reply, but to an abort.
 #[derive(Clone, Copy, Debug, PartialEq, Eq)]
 pub struct VbootHashSay {
-    /// 0 idle, 1 done, 2 busy.
+    /// `STATUS_NONE`, `STATUS_DONE` or `STATUS_BUSY`.
     pub status: u8,
-    /// 0 is SHA-256.
+    /// `TYPE_SHA256`.
     pub hash_type: u8,
     /// How many bytes the digest has.
     pub digest_size: u8,
@@ -88,6 +103,48 @@ pub struct VbootHashSay {
 }
 
 impl VbootHashSay {
+    /// There is no hash. EC_VBOOT_HASH_STATUS_NONE
+    pub const STATUS_NONE: u8 = 0;
+    /// The digest is shown. EC_VBOOT_HASH_STATUS_DONE
+    pub const STATUS_DONE: u8 = 1;
+    /// The hash is not finished. EC_VBOOT_HASH_STATUS_BUSY
+    pub const STATUS_BUSY: u8 = 2;
+    /// The one type of hash. EC_VBOOT_HASH_TYPE_SHA256
+    pub const TYPE_SHA256: u8 = 0;
+    /// How many bytes a SHA-256 has.
+    pub const DIGEST_SIZE: u8 = 32;
+
+    /// The fields that 76 bytes spell.
+    pub fn from_bytes(bytes: &[u8]) -> Self
+        requires { length bytes.now ≡ 76 }
+        ensures spelled { bytes.now ≡
+            vboot_hash_say result.status result.hash_type result.digest_size result.reserved
+            result.offset result.size result.digest }
+        ensures back { (status hash_type digest_size reserved offset size : ℕ) (digest : List ℕ) →
+            offset < 2 ^ 32 → size < 2 ^ 32 → length digest ≡ 64 →
+            bytes.now ≡ vboot_hash_say status hash_type digest_size reserved offset size digest →
+            result ≡ record {
+              status = status;
+              hash_type = hash_type;
+              digest_size = digest_size;
+              reserved = reserved;
+              offset = offset;
+              size = size;
+              digest = digest;
+            } }
+    {
+        let mut columns = Columns::new(bytes);
+        VbootHashSay {
+            status: columns.u8(),
+            hash_type: columns.u8(),
+            digest_size: columns.u8(),
+            reserved: columns.u8(),
+            offset: columns.u32(),
+            size: columns.u32(),
+            digest: columns.bytes(),
+        }
+    }
+
     /// The fields that the bytes spell; None exactly where they are not 76 bytes.
     pub fn read(bytes: &[u8]) -> Option<Self>
         ensures some { IsSome result ↔ (length bytes.now ≡ 76) }
@@ -106,16 +163,11 @@ impl VbootHashSay {
               digest = digest;
             }) }
     {
-        let mut columns = Columns::of(bytes, 76)?;
-        Some(VbootHashSay {
-            status: columns.u8(),
-            hash_type: columns.u8(),
-            digest_size: columns.u8(),
-            reserved: columns.u8(),
-            offset: columns.u32(),
-            size: columns.u32(),
-            digest: columns.bytes(),
-        })
+        if bytes.len() == 76 {
+            Some(VbootHashSay::from_bytes(bytes))
+        } else {
+            None
+        }
     }
 
     /// Appends the 76 bytes that spell the fields.

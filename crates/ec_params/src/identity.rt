@@ -20,6 +20,11 @@ ghost use Rattle.ec_model.specs.Bodies.{version_say, chip_say, sysinfo_say};
 use crate::columns::{Columns, put_u32};
 use ec_packet::Packet;
 
+/// The number of the read-only image. EC_IMAGE_RO
+pub const IMAGE_RO: u32 = 1;
+/// The number of the writable image. EC_IMAGE_RW
+pub const IMAGE_RW: u32 = 2;
+
 /// GET_VERSION's reply.
 #[derive(Clone, Copy, Debug, PartialEq, Eq)]
 pub struct VersionSay {
@@ -29,11 +34,29 @@ pub struct VersionSay {
     pub rw: [u8; 32],
     /// Zeros.
     pub reserved: [u8; 32],
-    /// The image that runs: 1 the read-only one, 2 the writable one.
+    /// The image that runs: `IMAGE_RO` or `IMAGE_RW`.
     pub current: u32,
 }
 
 impl VersionSay {
+    /// The fields that 100 bytes spell.
+    pub fn from_bytes(bytes: &[u8]) -> Self
+        requires { length bytes.now ≡ 100 }
+        ensures spelled { bytes.now ≡ version_say result.ro result.rw result.reserved result.current }
+        ensures back { (ro rw_text reserved : List ℕ) (current : ℕ) →
+            length ro ≡ 32 → length rw_text ≡ 32 → length reserved ≡ 32 → current < 2 ^ 32 →
+            bytes.now ≡ version_say ro rw_text reserved current →
+            (result.ro ≡ ro) × (result.rw ≡ rw_text) × (result.reserved ≡ reserved) × (result.current ≡ current) }
+    {
+        let mut columns = Columns::new(bytes);
+        VersionSay {
+            ro: columns.bytes(),
+            rw: columns.bytes(),
+            reserved: columns.bytes(),
+            current: columns.u32(),
+        }
+    }
+
     /// The fields that the bytes spell; None exactly where they are not 100 bytes.
     pub fn read(bytes: &[u8]) -> Option<Self>
         ensures some { IsSome result ↔ (length bytes.now ≡ 100) }
@@ -44,13 +67,11 @@ impl VersionSay {
             IsSomeAnd result (λ say. (say.ro ≡ ro) × (say.rw ≡ rw_text) × (say.reserved ≡ reserved)
             × (say.current ≡ current)) }
     {
-        let mut columns = Columns::of(bytes, 100)?;
-        Some(VersionSay {
-            ro: columns.bytes(),
-            rw: columns.bytes(),
-            reserved: columns.bytes(),
-            current: columns.u32(),
-        })
+        if bytes.len() == 100 {
+            Some(VersionSay::from_bytes(bytes))
+        } else {
+            None
+        }
     }
 
     /// Appends the 100 bytes that spell the fields.
@@ -123,13 +144,36 @@ impl ChipSay {
 pub struct SysinfoSay {
     /// The causes of the last reset.
     pub reset_flags: u32,
-    /// The image that runs: 1 the read-only one, 2 the writable one.
+    /// The image that runs: `IMAGE_RO` or `IMAGE_RW`.
     pub current: u32,
-    /// Bit 0 locked, bit 2 a jump is not disabled, bit 3 jumped since the last reset.
+    /// `LOCKED`, `JUMP_ENABLED` and `JUMPED`.
     pub flags: u32,
 }
 
 impl SysinfoSay {
+    /// The RO blocks are locked, and the pin is asserted. SYSTEM_IS_LOCKED
+    pub const LOCKED: u32 = 0x01;
+    /// Jumps are not disabled. SYSTEM_JUMP_ENABLED
+    pub const JUMP_ENABLED: u32 = 0x04;
+    /// The image runs by a jump. SYSTEM_JUMPED_TO_CURRENT_IMAGE
+    pub const JUMPED: u32 = 0x08;
+
+    /// The fields that 12 bytes spell.
+    pub fn from_bytes(bytes: &[u8]) -> Self
+        requires { length bytes.now ≡ 12 }
+        ensures spelled { bytes.now ≡ sysinfo_say result.reset_flags result.current result.flags }
+        ensures back { (reset_flags current flags : ℕ) → reset_flags < 2 ^ 32 → current < 2 ^ 32 → flags < 2 ^ 32 →
+            bytes.now ≡ sysinfo_say reset_flags current flags →
+            result ≡ record { reset_flags = reset_flags; current = current; flags = flags } }
+    {
+        let mut columns = Columns::new(bytes);
+        SysinfoSay {
+            reset_flags: columns.u32(),
+            current: columns.u32(),
+            flags: columns.u32(),
+        }
+    }
+
     /// The fields that the bytes spell; None exactly where they are not 12 bytes.
     pub fn read(bytes: &[u8]) -> Option<Self>
         ensures some { IsSome result ↔ (length bytes.now ≡ 12) }
@@ -138,12 +182,11 @@ impl SysinfoSay {
             bytes.now ≡ sysinfo_say reset_flags current flags →
             result ≡ Some (record { reset_flags = reset_flags; current = current; flags = flags }) }
     {
-        let mut columns = Columns::of(bytes, 12)?;
-        Some(SysinfoSay {
-            reset_flags: columns.u32(),
-            current: columns.u32(),
-            flags: columns.u32(),
-        })
+        if bytes.len() == 12 {
+            Some(SysinfoSay::from_bytes(bytes))
+        } else {
+            None
+        }
     }
 
     /// Appends the 12 bytes that spell the fields.

@@ -26,7 +26,7 @@ pub use flash::{
 };
 pub use hash::{VbootHashAsk, VbootHashSay};
 pub use hello::{HelloAsk, HelloSay, ProtoSay};
-pub use identity::{ChipSay, SysinfoSay, VersionSay};
+pub use identity::{ChipSay, IMAGE_RO, IMAGE_RW, SysinfoSay, VersionSay};
 pub use probe::{TestAsk, TestSay};
 pub use protection::{FlashProtectAsk, FlashProtectSay, RegionInfoAsk, RegionInfoSay};
 pub use protocol::{CmdVersionsAsk0, CmdVersionsAsk1, CmdVersionsSay, CommsSay, ProtoInfoSay};

@@ -8,13 +8,24 @@ use ec_packet::Packet;
 /// REBOOT_EC's request.
 #[derive(Clone, Copy, Debug, PartialEq, Eq)]
 pub struct RebootAsk {
-    /// 0 nothing, 1 a jump to the read-only image, 2 one to the writable image, 4 a reset, 5 no jumps from now on.
+    /// `CANCEL`, `JUMP_RO`, `JUMP_RW`, `COLD` or `DISABLE_JUMP`.
     pub cmd: u8,
     /// Always 0.
     pub flags: u8,
 }
 
 impl RebootAsk {
+    /// Nothing is done. EC_REBOOT_CANCEL
+    pub const CANCEL: u8 = 0;
+    /// A jump to the RO image. EC_REBOOT_JUMP_RO
+    pub const JUMP_RO: u8 = 1;
+    /// A jump to the RW image. EC_REBOOT_JUMP_RW
+    pub const JUMP_RW: u8 = 2;
+    /// A reset. EC_REBOOT_COLD
+    pub const COLD: u8 = 4;
+    /// No jumps until the next reset. EC_REBOOT_DISABLE_JUMP
+    pub const DISABLE_JUMP: u8 = 5;
+
     /// The fields that the bytes spell; None exactly where they are not 2 bytes.
     pub fn read(bytes: &[u8]) -> Option<Self>
         ensures some { IsSome result ↔ (length bytes.now ≡ 2) }

@@ -1,4 +1,4 @@
-// The commands that are built.
+// The commands and their versions.
 ghost use Rattle.std.specs.Prelude.{◌≡◌};
 ghost use Rattle.ec_model.specs.Commands.{known};
 
@@ -19,12 +19,16 @@ pub fn known(command: u16) -> Option<u32>
     match command {
         command::PROTO_VERSION
         | command::HELLO
+        | command::GET_VERSION
         | command::GET_CHIP_INFO
         | command::GET_COMMS_STATUS
         | command::TEST_PROTOCOL
         | command::GET_PROTOCOL_INFO
         | command::FLASH_READ
         | command::FLASH_ERASE
+        | command::SYSINFO
+        | command::VBOOT_HASH
+        | command::REBOOT_EC
         | command::RESEND_RESPONSE => Some(VERSION_0),
         command::GET_COMMAND_VERSIONS | command::FLASH_INFO | command::FLASH_WRITE => Some(
             VERSIONS_0_AND_1,

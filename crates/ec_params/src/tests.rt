@@ -51,5 +51,7 @@ fn some_commands_are_known(rt: HostRuntime) {
     assert_eq!(rt; known(command::HELLO), Some(1));
     assert_eq!(rt; known(command::FLASH_PROTECT), Some(2));
     assert_eq!(rt; known(command::FLASH_REGION_INFO), Some(2));
+    assert_eq!(rt; known(command::GET_VERSION), Some(1));
+    assert_eq!(rt; known(command::REBOOT_EC), Some(1));
     assert_eq!(rt; known(0xFFF), None);
 }

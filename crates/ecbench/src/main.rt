@@ -6,6 +6,8 @@
 //! what went wrong, of which no clause speaks.
 #![tactic(auto)]
 
+#[cfg(test)]
+mod image_tests;
 mod marking;
 mod raw;
 mod run;

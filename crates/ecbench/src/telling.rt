@@ -42,7 +42,7 @@ impl<'a> fmt::Display for FaultyLine<'a> {
                     "line {number}, byte {place}: {byte:#04x} is not {wanted}"
                 )
             }
-            Wanted::Words { .. } | Wanted::ProtectWords => {
+            Wanted::Words { .. } | Wanted::ProtectWords | Wanted::HashWords => {
                 let first = shown(nth_word(self.line, 1));
                 let count = words_behind_first(self.line);
                 write!(

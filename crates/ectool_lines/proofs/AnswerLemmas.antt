@@ -1,7 +1,6 @@
 -- Commands of a line where nothing disturbs them: each is handled and answered.
 use Rattle.std.proofs.Common.{◌≡◌, refl, sym, ap, ◌∙◌, subst, ℕ, zero, suc, ◌≤◌, ◌<◌, ◌==◌, Bool, true, false, not, ◌&&◌, ◌||◌, if◌then◌else◌, List, [], ◌∷◌, ◌++◌, length, map, arith}
 use Rattle.std.specs.List.{list_any}
-use Rattle.std.proofs.lemmas.Bool.Decides.{eqb_tells}
 use Rattle.ec_types.specs.LittleEndian.{u16_at}
 use Rattle.ec_types.specs.declared.bus.BusKind.TheVariants.{Lpc}
 use Rattle.ec_model.specs.declared.event.Entry.{Entry}
@@ -33,7 +32,7 @@ use Rattle.ectool_lines.specs.Requests.{Asked, packet_of, first_of, count_of, co
 use Rattle.ectool_lines.specs.Texts.{LineEnd, Succeeded, Stopped}
 use Rattle.ectool_lines.specs.Asking.{AllSucceed, AsksEach, Hears}
 use Rattle.ectool_lines.specs.Answering.{IsAnswered, IsUnanswered, AnswersBy, Answers}
-use Rattle.ectool_lines.proofs.SendLemmas.{command-short, command-plain}
+use Rattle.ectool_lines.proofs.SendLemmas.{eq-of, command-short, command-plain}
 use Rattle.ectool_lines.proofs.WantLemmas.{HasWanted, command-wanted}
 
 -- a controller on LPC that is on or off
@@ -74,15 +73,11 @@ said-by status body true true same = refl
 said-by status body true false same = absurd (let e = same refl in cc)
 said-by status body false fits same = refl
 
--- two numbers that a test finds equal
-eq-of-test : (a b : ℕ) → (a == b) ≡ true → a ≡ b
-eq-of-test a b same = grind (arith, eqb_tells)
-
 -- what is heard of a response that has the bytes that are wanted
 heard-said : (want status : ℕ) (body : List ℕ) → status < 65536 → (status ≡ 0 → length body ≡ want) → heard_as want (Reply (response_packet status body)) ≡ Said status body
 heard-said want status body small wanted =
     let read = status-read status body small in
-    rw read (said-by status body (status == 0) (length body == want) (λ success. eq-true (length body) want (wanted (eq-of-test status 0 success))))
+    rw read (said-by status body (status == 0) (length body == want) (λ success. eq-true (length body) want (wanted (eq-of status 0 success))))
 
 -- a command that was answered by a controller that is on
 pub record IsHeard (table : Table) (asked : Asked) (entries : List Entry) (ending : Ending) (after : Bool) (last : Table) : Type 0 where

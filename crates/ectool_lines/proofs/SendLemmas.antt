@@ -1,14 +1,15 @@
 -- Commands of a line, one after the other.
-use Rattle.std.proofs.Common.{◌≡◌, refl, sym, ap, ◌∙◌, subst, ℕ, zero, suc, ◌+◌, ◌-◌, ◌*◌, ◌/◌, ◌%◌, ◌^◌, ◌==◌, ◌<◌, ◌≤◌, Bool, false, ◌&&◌, List, [], ◌∷◌, ◌++◌, length, take, drop, append_assoc, append-nil, ◌⊎◌, inl, inr, arith}
+use Rattle.std.proofs.Common.{◌≡◌, refl, sym, ap, ◌∙◌, subst, ℕ, zero, suc, ◌+◌, ◌-◌, ◌*◌, ◌/◌, ◌%◌, ◌^◌, ◌==◌, ◌<◌, ◌≤◌, Bool, true, false, ◌&&◌, List, [], ◌∷◌, ◌++◌, length, take, drop, append_assoc, append-nil, ◌⊎◌, inl, inr, arith}
 use Rattle.std.proofs.lemmas.Bool.{cases_lt}
+use Rattle.std.proofs.lemmas.Bool.Decides.{eqb_tells}
 use Rattle.ec_model.proofs.GuardSteps.{if_cases}
-use Rattle.std.specs.Prelude.{replicate}
+use Rattle.std.specs.Prelude.{replicate, IsTrue}
 use Rattle.std.proofs.lemmas.List.{length-take, length-append, length-replicate}
 use Rattle.ec_types.specs.Tables.{packet_limit}
 use Rattle.ec_types.specs.declared.bus.BusKind.{BusKind}
 use Rattle.ec_types.specs.declared.bus.BusKind.TheVariants.{Lpc}
 use Rattle.ec_types.specs.LittleEndian.{u32_bytes}
-use Rattle.ec_model.specs.Bodies.{flash_write_ask, test_ask}
+use Rattle.ec_model.specs.Bodies.{flash_write_ask, test_ask, vboot_hash_ask}
 use Rattle.ec_model.specs.InfoRows.{zero_padded}
 use Rattle.ec_model.specs.declared.event.Entry.{Entry}
 use Rattle.ec_wire.specs.Calls.{WireView, Grows}
@@ -20,9 +21,9 @@ use Rattle.host_transport.specs.Ends.{ending_of}
 use Rattle.host_transport.specs.declared.ending.Once.{Once}
 use Rattle.host_transport.specs.declared.ending.Once.TheVariants.{Status, Bad, Silent, NoPower}
 use Rattle.ectool_lines.specs.declared.tool.Tool.{Tool}
-use Rattle.ectool_lines.specs.declared.tool.Tool.TheVariants.{Hello, ChipInfo, CmdVersions, ProtoInfo, FlashInfo, RegionInfo, FlashRead, FlashWrite, FlashProtect, Test, Resend}
-use Rattle.ectool_lines.specs.Tools.{IsInRange}
-use Rattle.ectool_lines.specs.Requests.{Asked, packet_of, first_of, parts_of, count_of, command_of, commands_of}
+use Rattle.ectool_lines.specs.declared.tool.Tool.TheVariants.{Hello, Version, ChipInfo, CmdVersions, ProtoInfo, FlashInfo, RegionInfo, FlashRead, FlashWrite, FlashProtect, Hash, HashAbort, HashStart, HashRange, Sysinfo, Reboot, Test, Resend}
+use Rattle.ectool_lines.specs.Tools.{is_reboot, IsInRange}
+use Rattle.ectool_lines.specs.Requests.{Asked, packet_of, first_of, parts_of, count_of, image_offset, command_of, commands_of}
 use Rattle.ectool_lines.specs.Texts.{Succeeded, Stopped, printed, replies_text, reply_text, closing_text, refusal_text}
 use Rattle.ectool_lines.specs.Asking.{AllSucceed, IsSuccess, StopsAt, Hears, CarriesTool}
 
@@ -162,6 +163,7 @@ write_parts-few size small = if_cases (λ (parts : ℕ). parts ≤ 18) (size == 
 -- how many commands a line sends on LPC
 pub count-few : (tool : Tool) → IsInRange tool → count_of 256 tool ≤ 18
 count-few Hello within = omega arith
+count-few Version within = omega arith
 count-few ChipInfo within = omega arith
 count-few (CmdVersions number) within = omega arith
 count-few ProtoInfo within = omega arith
@@ -170,6 +172,12 @@ count-few (RegionInfo region) within = omega arith
 count-few (FlashRead at size) within = parts-few size within
 count-few (FlashWrite at bytes) within = write_parts-few (length bytes) within.1
 count-few (FlashProtect mask flags) within = omega arith
+count-few Hash within = omega arith
+count-few HashAbort within = omega arith
+count-few (HashStart image nonce) within = omega arith
+count-few (HashRange at size) within = omega arith
+count-few Sysinfo within = omega arith
+count-few (Reboot cmd) within = omega arith
 count-few (Test ec_result ret_len bytes) within = omega arith
 count-few Resend within = omega arith
 
@@ -189,9 +197,15 @@ padded-length size bytes short = omega (arith, length-append bytes (replicate (s
 test-short : (ec_result ret_len : ℕ) (bytes : List ℕ) → length bytes ≤ 32 → length (test_ask ec_result ret_len (zero_padded 32 bytes)) ≤ 248
 test-short ec_result ret_len bytes short = omega (arith, length-append (u32_bytes ec_result ++ u32_bytes ret_len) (zero_padded 32 bytes), padded-length 32 bytes short)
 
+-- the body of a VBOOT_HASH
+pub hash-length : (cmd count offset size : ℕ) (nonce : List ℕ) → length nonce ≤ 64 → length (vboot_hash_ask cmd 0 count 0 offset size (zero_padded 64 nonce)) ≡ 76
+hash-length cmd count offset size nonce short =
+    omega (arith, length-append ((cmd ∷ 0 ∷ count ∷ 0 ∷ []) ++ u32_bytes offset ++ u32_bytes size) (zero_padded 64 nonce), padded-length 64 nonce short)
+
 -- the bodies of a line's commands are short on LPC
 pub command-short : (tool : Tool) (k : ℕ) → IsInRange tool → length (command_of 256 tool k).body ≤ 248
 command-short Hello k within = omega arith
+command-short Version k within = omega arith
 command-short ChipInfo k within = omega arith
 command-short (CmdVersions number) k within = omega arith
 command-short ProtoInfo k within = omega arith
@@ -200,12 +214,19 @@ command-short (RegionInfo region) k within = omega arith
 command-short (FlashRead at size) k within = omega arith
 command-short (FlashWrite at bytes) k within = write-short ((at + k * 240) % 2 ^ 32) (take 240 (drop (k * 240) bytes)) (part-short 240 (k * 240) bytes)
 command-short (FlashProtect mask flags) k within = omega arith
+command-short Hash k within = omega arith
+command-short HashAbort k within = omega arith
+command-short (HashStart image nonce) k within = omega (arith, hash-length 2 (length nonce) (image_offset image) 0 nonce within)
+command-short (HashRange at size) k within = omega arith
+command-short Sysinfo k within = omega arith
+command-short (Reboot cmd) k within = omega arith
 command-short (Test ec_result ret_len bytes) k within = test-short ec_result ret_len bytes within.2
 command-short Resend k within = omega arith
 
 -- what a success has at most on LPC
 pub command-wants : (tool : Tool) (k : ℕ) → IsInRange tool → (command_of 256 tool k).want ≤ 248
 command-wants Hello k within = omega arith
+command-wants Version k within = omega arith
 command-wants ChipInfo k within = omega arith
 command-wants (CmdVersions number) k within = omega arith
 command-wants ProtoInfo k within = omega arith
@@ -214,32 +235,53 @@ command-wants (RegionInfo region) k within = omega arith
 command-wants (FlashRead at size) k within = omega arith
 command-wants (FlashWrite at bytes) k within = omega arith
 command-wants (FlashProtect mask flags) k within = omega arith
+command-wants Hash k within = omega arith
+command-wants HashAbort k within = omega arith
+command-wants (HashStart image nonce) k within = omega arith
+command-wants (HashRange at size) k within = omega arith
+command-wants Sysinfo k within = omega arith
+command-wants (Reboot cmd) k within = omega arith
 command-wants (Test ec_result ret_len bytes) k within = omega (arith, within.0)
 command-wants Resend k within = omega arith
 
--- a number of 16 bits that is not REBOOT_EC's
-abbrev IsOther : ℕ → Type 0
-IsOther number = (number < 2 ^ 16) × ((number == 0xD2) ≡ false)
+-- two numbers that a test finds equal
+pub eq-of : (a b : ℕ) → (a == b) ≡ true → a ≡ b
+eq-of a b same = grind (arith, eqb_tells)
 
--- no line sends REBOOT_EC
-command-other : (tool : Tool) (k : ℕ) → IsOther (command_of 256 tool k).command
-command-other Hello k = (omega arith, refl)
-command-other ChipInfo k = (omega arith, refl)
-command-other (CmdVersions number) k = (omega arith, refl)
-command-other ProtoInfo k = (omega arith, refl)
-command-other FlashInfo k = (omega arith, refl)
-command-other (RegionInfo region) k = (omega arith, refl)
-command-other (FlashRead at size) k = (omega arith, refl)
-command-other (FlashWrite at bytes) k = (omega arith, refl)
-command-other (FlashProtect mask flags) k = (omega arith, refl)
-command-other (Test ec_result ret_len bytes) k = (omega arith, refl)
-command-other Resend k = (omega arith, refl)
+-- a cmd that a line may send is not that of a COLD
+not-four : (cmd : ℕ) (four : Bool) → (cmd == 4) ≡ four → IsTrue (is_reboot cmd) → four ≡ false
+not-four cmd false same within = refl
+not-four cmd true same within = let cold : is_reboot 4 ≡ true = subst (λ (n : ℕ). is_reboot n ≡ true) (eq-of cmd 4 same) within in cc
 
--- a command that is not REBOOT_EC, as it is spelled
-plain-at : (asked : Asked) → IsOther asked.command → length asked.body ≤ 248 → IsPlain (packet_of asked)
-plain-at asked (small, other) short =
-    plain-spelled asked.command asked.version asked.body small (omega (arith, short)) (ap (λ (same : Bool). same && is_cold_body asked.body) other)
+-- a number of 16 bits, and no COLD
+abbrev IsNoCold : Asked → Type 0
+IsNoCold asked = (asked.command < 2 ^ 16) × (((asked.command == 0xD2) && is_cold_body asked.body) ≡ false)
+
+-- no line sends a COLD
+command-no_cold : (tool : Tool) (k : ℕ) → IsInRange tool → IsNoCold (command_of 256 tool k)
+command-no_cold Hello k within = (omega arith, refl)
+command-no_cold Version k within = (omega arith, refl)
+command-no_cold ChipInfo k within = (omega arith, refl)
+command-no_cold (CmdVersions number) k within = (omega arith, refl)
+command-no_cold ProtoInfo k within = (omega arith, refl)
+command-no_cold FlashInfo k within = (omega arith, refl)
+command-no_cold (RegionInfo region) k within = (omega arith, refl)
+command-no_cold (FlashRead at size) k within = (omega arith, refl)
+command-no_cold (FlashWrite at bytes) k within = (omega arith, refl)
+command-no_cold (FlashProtect mask flags) k within = (omega arith, refl)
+command-no_cold Hash k within = (omega arith, refl)
+command-no_cold HashAbort k within = (omega arith, refl)
+command-no_cold (HashStart image nonce) k within = (omega arith, refl)
+command-no_cold (HashRange at size) k within = (omega arith, refl)
+command-no_cold Sysinfo k within = (omega arith, refl)
+command-no_cold (Reboot cmd) k within = (omega arith, ap (λ (four : Bool). four && true) (not-four cmd (cmd == 4) refl within))
+command-no_cold (Test ec_result ret_len bytes) k within = (omega arith, refl)
+command-no_cold Resend k within = (omega arith, refl)
+
+-- a command that is no COLD, as it is spelled
+plain-at : (asked : Asked) → IsNoCold asked → length asked.body ≤ 248 → IsPlain (packet_of asked)
+plain-at asked (small, other) short = plain-spelled asked.command asked.version asked.body small (omega (arith, short)) other
 
 -- no command of a line is a COLD
 pub command-plain : (tool : Tool) (k : ℕ) → IsInRange tool → IsPlain (packet_of (command_of 256 tool k))
-command-plain tool k within = plain-at (command_of 256 tool k) (command-other tool k) (command-short tool k within)
+command-plain tool k within = plain-at (command_of 256 tool k) (command-no_cold tool k within) (command-short tool k within)

@@ -1,26 +1,34 @@
 -- A success of a line's command has as many bytes as the line wants.
-use Rattle.std.proofs.Common.{◌≡◌, refl, sym, ◌∙◌, subst, ℕ, ◌+◌, ◌-◌, ◌*◌, ◌%◌, ◌^◌, ◌<◌, ◌≤◌, ◌==◌, Bool, true, false, not, ◌&&◌, ◌||◌, nat_lt, if◌then◌else◌, List, [], length, take, drop, min, Option, Some, None, Result, Ok, Err, arith, length-take}
-use Rattle.std.specs.Prelude.{is_some}
-use Rattle.std.proofs.lemmas.List.{length-drop}
+use Rattle.std.proofs.Common.{◌≡◌, refl, sym, ◌∙◌, subst, ℕ, ◌+◌, ◌-◌, ◌*◌, ◌%◌, ◌^◌, ◌<◌, ◌≤◌, ◌==◌, Bool, true, false, not, ◌&&◌, ◌||◌, nat_lt, if◌then◌else◌, List, [], ◌∷◌, ◌++◌, length, take, drop, min, Option, Some, None, Result, Ok, Err, arith, length-take}
+use Rattle.std.specs.Prelude.{is_some, replicate, slice_index, take_while}
+use Rattle.std.proofs.lemmas.List.{length-drop, length-append}
 use Rattle.std.proofs.lemmas.Bool.Decides.{leb_tells, eqb_tells}
-use Rattle.ec_types.specs.LittleEndian.{u16_at, u32_at}
-use Rattle.ec_model.specs.Bodies.{hello_ask, cmd_versions_ask1, region_info_ask, test_ask, flash_read_ask, flash_protect_ask}
+use Rattle.ec_types.specs.LittleEndian.{u16_at, u32_at, u32_bytes}
+use Rattle.ec_types.specs.declared.image.ImageCopy.{ImageCopy}
+use Rattle.ec_types.specs.declared.image.ImageCopy.TheVariants as copy
+use Rattle.ec_model.specs.declared.live.HashView.{HashView}
+use Rattle.ec_model.specs.declared.live.HashView.TheVariants.{Idle, Busy, Done}
+use Rattle.ec_model.specs.Bodies.{hello_ask, cmd_versions_ask1, region_info_ask, test_ask, flash_read_ask, flash_protect_ask, version_say, vboot_hash_ask, reboot_ask}
 use Rattle.ec_model.specs.Packet.{RequestView, request_packet}
 use Rattle.ec_model.specs.Ranges.{Range, part, ends_within, region_range}
-use Rattle.ec_model.specs.Commands.{is_write_spelled, known}
-use Rattle.ec_model.specs.InfoRows.{zero_padded, mask_told, range_told, test_row}
-use Rattle.ec_model.specs.Table.{Core, is_blocked}
+use Rattle.ec_model.specs.Commands as table
+use Rattle.ec_model.specs.Commands.{Command, CommandLine, line, line_of, offers, is_spelled, is_answered_while_erasing, is_write_spelled, known}
+use Rattle.ec_model.specs.InfoRows.{zero_padded, mask_told, range_told, test_row, is_shown, version_text, raw_version, copy_number, version_row, sysinfo_row}
+use Rattle.ec_model.specs.HashRow.{hash_bytes, hash_range, hash_shown, hash_asked, hash_start_row}
+use Rattle.ec_model.specs.Jump.{same_copy, is_denied, has_vector}
+use Rattle.ec_model.specs.RebootRow.{jump_row, reboot_row}
+use Rattle.ec_model.specs.Table.{Core, IsHashable, is_blocked}
 use Rattle.ec_model.specs.Answer.{Outcome, Answered, Restarts, done, unless_refused}
 use Rattle.ec_model.specs.FlashRows.{asked_range, flash_read_row, flash_write_row, written, is_whole_units}
-use Rattle.ec_model.specs.Handle.{Admitted, row_of, admitted_from, handled}
+use Rattle.ec_model.specs.Handle.{Admitted, row, row_of, admitted_by, admitted_from, handled}
 use Rattle.ec_model.proofs.GuardSteps.{if_cases}
 use Rattle.ec_model.proofs.ValidRows.{IsCoreValid}
 use Rattle.exchange_laws.proofs.Spelled.{framing-spelled}
 use Rattle.ectool_lines.specs.declared.tool.Tool.{Tool}
-use Rattle.ectool_lines.specs.declared.tool.Tool.TheVariants.{Hello, ChipInfo, CmdVersions, ProtoInfo, FlashInfo, RegionInfo, FlashRead, FlashWrite, FlashProtect, Test, Resend}
+use Rattle.ectool_lines.specs.declared.tool.Tool.TheVariants.{Hello, Version, ChipInfo, CmdVersions, ProtoInfo, FlashInfo, RegionInfo, FlashRead, FlashWrite, FlashProtect, Hash, HashAbort, HashStart, HashRange, Sysinfo, Reboot, Test, Resend}
 use Rattle.ectool_lines.specs.Tools.{IsInRange}
-use Rattle.ectool_lines.specs.Requests.{region_number, packet_of, command_of}
-use Rattle.ectool_lines.proofs.SendLemmas.{command-short, padded-length}
+use Rattle.ectool_lines.specs.Requests.{region_number, image_offset, packet_of, command_of}
+use Rattle.ectool_lines.proofs.SendLemmas.{command-short, padded-length, hash-length}
 
 -- an answer with a status of 16 bits, that has so many bytes where it is a success
 abbrev pub HasWanted : ℕ → Outcome → Type 0
@@ -122,9 +130,94 @@ test-wanted core ec_result ret_len buf short whole =
 protect-wanted : (core : Core) (mask flags : ℕ) → HasWanted 12 (row_of core 256 (admitted_from core (Ok (record { command = 0x15; version = 1; body = flash_protect_ask mask flags }))))
 protect-wanted core mask flags = checked-wanted 12 core true true _ (omega arith, λ none. omega arith)
 
+-- a request with its line of the table, where it has one: each of the checks may refuse it
+line-wanted : (want : ℕ) (core : Core) (request : RequestView) (entry : Option CommandLine) → ((found : CommandLine) → entry ≡ Some found → HasWanted want (row core 256 found.command request.version request.body)) →
+    HasWanted want (row_of core 256 (admitted_by core request entry))
+line-wanted want core request None wanted = refusal-wanted want core 1 (omega arith) (omega arith)
+line-wanted want core request (Some found) wanted =
+    let answers : Result Admitted ℕ → Type 0 = λ result. HasWanted want (row_of core 256 result) in
+    if_cases answers (not (offers found.mask request.version)) _ _ (λ other. refusal-wanted want core 6 (omega arith) (omega arith))
+    (λ offered. if_cases answers (is_some core.live.erase && not (is_answered_while_erasing found.command)) _ _ (λ busy. refusal-wanted want core 16 (omega arith) (omega arith))
+    (λ free. if_cases answers (not (is_spelled found.command request.version request.body)) _ _ (λ wrong. refusal-wanted want core 3 (omega arith) (omega arith)) (λ right. wanted found refl)))
+
+-- the table has this command at a number, or none
+abbrev IsNumberOf : ℕ → Command → Type 0
+IsNumberOf number command = (found : CommandLine) → line_of number ≡ Some found → line number command 1 ≡ found
+
+-- a request of a command by its number
+numbered-wanted : (want : ℕ) (core : Core) (number : ℕ) (command : Command) (body : List ℕ) → number < 65536 → length body < 65536 → IsNumberOf number command → HasWanted want (row core 256 command 0 body) →
+    HasWanted want (handled core 256 (request_packet number 0 body))
+numbered-wanted want core number command body small short named wanted =
+    let request : RequestView = record { command = number; version = 0; body = body } in
+    let rows : CommandLine → Type 0 = λ entry. HasWanted want (row core 256 entry.command 0 body) in
+    spelled-wanted want core number 0 body small short (line-wanted want core request (line_of number) (λ found same. subst rows (named found same) wanted))
+
+-- a version as it is told
+version_text-length : (raw : List ℕ) → length (version_text raw) ≡ 32
+version_text-length raw = padded-length 32 (take 31 (take_while is_shown raw)) (omega (arith, length-take 31 (take_while is_shown raw)))
+
+-- the columns of a GET_VERSION's reply
+version_say-length : (ro rw_version reserved : List ℕ) (current : ℕ) → length ro ≡ 32 → length rw_version ≡ 32 → length reserved ≡ 32 → length (version_say ro rw_version reserved current) ≡ 100
+version_say-length ro rw_version reserved current first second third =
+    omega (arith, length-append ((ro ++ rw_version) ++ reserved) (u32_bytes current), length-append (ro ++ rw_version) reserved, length-append ro rw_version, first, second, third)
+
+-- GET_VERSION
+version-wanted : (core : Core) → HasWanted 100 (version_row core)
+version-wanted core =
+    let ro = raw_version copy.Ro core.flash in
+    let rw_version = raw_version copy.Rw core.flash in
+    (omega arith, λ none. version_say-length (version_text ro) (version_text rw_version) (replicate 32 0) (copy_number core.live.copy) (version_text-length ro) (version_text-length rw_version) refl)
+
+-- SYSINFO
+sysinfo-wanted : (core : Core) → HasWanted 12 (sysinfo_row core)
+sysinfo-wanted core = (omega arith, λ none. omega arith)
+
+-- the bytes that show a hash
+hash_bytes-length : (size : ℕ) (hash : HashView) (nonce : List ℕ) → IsHashable size hash nonce → length (hash_bytes hash) ≡ 76
+hash_bytes-length size Idle nonce hashable = refl
+hash_bytes-length size (Busy at count left) nonce hashable = refl
+hash_bytes-length size (Done at count digest) nonce hashable =
+    let body = digest ++ replicate 32 0 in
+    omega (arith, hashable.2, length-append digest (replicate 32 0), length-append ((1 ∷ 0 ∷ 32 ∷ 0 ∷ []) ++ u32_bytes at ++ u32_bytes count) body)
+
+-- VBOOT_HASH that shows the hash
+shown-wanted : (core : Core) → IsCoreValid core → HasWanted 76 (hash_shown core)
+shown-wanted core valid = (omega arith, λ none. hash_bytes-length (length core.flash) core.live.hash core.nonce valid.hash)
+
+-- VBOOT_HASH that starts one, by its range
+asked-wanted : (core : Core) (range : Option Range) (nonce : List ℕ) → HasWanted 76 (hash_asked range nonce core)
+asked-wanted core None nonce = refusal-wanted 76 core 3 (omega arith) (omega arith)
+asked-wanted core (Some range) nonce = (omega arith, λ none. refl)
+
+-- VBOOT_HASH that starts one
+start-wanted : (core : Core) (body : List ℕ) → HasWanted 76 (hash_start_row core body)
+start-wanted core body =
+    if_cases (HasWanted 76) (not (slice_index body 1 == 0) || nat_lt 64 (slice_index body 2)) _ _ (λ wrong. refusal-wanted 76 core 3 (omega arith) (omega arith))
+    (λ right. asked-wanted core (hash_range (length core.flash) (u32_at 4 body) (u32_at 8 body)) (take (slice_index body 2) (drop 12 body)))
+
+-- a jump
+jump-wanted : (core : Core) (target : ImageCopy) → HasWanted 0 (jump_row target core)
+jump-wanted core target =
+    if_cases (HasWanted 0) (same_copy target core.live.copy) _ _ (λ runs. (omega arith, λ none. refl))
+    (λ other. if_cases (HasWanted 0) (is_denied core target) _ _ (λ denied. refusal-wanted 0 core 4 (omega arith) (omega arith))
+    (λ granted. if_cases (HasWanted 0) (not (has_vector core.flash target)) _ _ (λ outside. refusal-wanted 0 core 2 (omega arith) (omega arith))
+    (λ inside. (omega arith, λ none. refl))))
+
+-- REBOOT_EC
+reboot-wanted : (core : Core) (body : List ℕ) → HasWanted 0 (reboot_row core body)
+reboot-wanted core body =
+    let cmd = slice_index body 0 in
+    if_cases (HasWanted 0) (not (slice_index body 1 == 0)) _ _ (λ wrong. refusal-wanted 0 core 3 (omega arith) (omega arith))
+    (λ right. if_cases (HasWanted 0) (cmd == 0) _ _ (λ cancel. (omega arith, λ none. refl))
+    (λ n0. if_cases (HasWanted 0) (cmd == 1) _ _ (λ ro. jump-wanted core copy.Ro)
+    (λ n1. if_cases (HasWanted 0) (cmd == 2) _ _ (λ rw_. jump-wanted core copy.Rw)
+    (λ n2. if_cases (HasWanted 0) (cmd == 4) _ _ (λ cold. tt)
+    (λ n4. if_cases (HasWanted 0) (cmd == 5) _ _ (λ disable. (omega arith, λ none. refl)) (λ rest. refusal-wanted 0 core 3 (omega arith) (omega arith)))))))
+
 -- each command of a line
 pub command-wanted : (tool : Tool) (k : ℕ) (core : Core) → IsCoreValid core → IsInRange tool → HasWanted (command_of 256 tool k).want (handled core 256 (packet_of (command_of 256 tool k)))
 command-wanted Hello k core valid within = spelled-wanted 4 core 0x01 0 (hello_ask 0xA0B0C0D0) (omega arith) (omega arith) (hello-wanted core)
+command-wanted Version k core valid within = numbered-wanted 100 core 0x02 table.Version [] (omega arith) (omega arith) (λ found same. cc) (version-wanted core)
 command-wanted ChipInfo k core valid within = spelled-wanted 96 core 0x05 0 [] (omega arith) (omega arith) (checked-wanted 96 core true true _ (omega arith, λ none. refl))
 command-wanted (CmdVersions number) k core valid within =
     let body = cmd_versions_ask1 number in
@@ -143,6 +236,20 @@ command-wanted (FlashWrite at bytes) k core valid within =
     spelled-wanted 0 core 0x12 1 body (omega arith) (omega (arith, command-short (FlashWrite at bytes) k within)) (write-wanted core body)
 command-wanted (FlashProtect mask flags) k core valid within =
     spelled-wanted 12 core 0x15 1 (flash_protect_ask mask flags) (omega arith) (omega arith) (protect-wanted core mask flags)
+command-wanted Hash k core valid within =
+    numbered-wanted 76 core 0x2A table.VbootHash (vboot_hash_ask 0 0 0 0 0 0 (zero_padded 64 [])) (omega arith) (omega arith) (λ found same. cc) (shown-wanted core valid)
+command-wanted HashAbort k core valid within =
+    numbered-wanted 0 core 0x2A table.VbootHash (vboot_hash_ask 1 0 0 0 0 0 (zero_padded 64 [])) (omega arith) (omega arith) (λ found same. cc) (omega arith, λ none. refl)
+command-wanted (HashStart image nonce) k core valid within =
+    let body = vboot_hash_ask 2 0 (length nonce) 0 (image_offset image) 0 (zero_padded 64 nonce) in
+    numbered-wanted 76 core 0x2A table.VbootHash body (omega arith) (omega (arith, hash-length 2 (length nonce) (image_offset image) 0 nonce within)) (λ found same. cc) (start-wanted core body)
+command-wanted (HashRange at size) k core valid within =
+    let body = vboot_hash_ask 2 0 0 0 at size (zero_padded 64 []) in
+    numbered-wanted 76 core 0x2A table.VbootHash body (omega arith) (omega arith) (λ found same. cc) (start-wanted core body)
+command-wanted Sysinfo k core valid within = numbered-wanted 12 core 0x1C table.Sysinfo [] (omega arith) (omega arith) (λ found same. cc) (sysinfo-wanted core)
+command-wanted (Reboot cmd) k core valid within =
+    let body = reboot_ask cmd 0 in
+    numbered-wanted 0 core 0xD2 table.Reboot body (omega arith) (omega arith) (λ found same. cc) (reboot-wanted core body)
 command-wanted (Test ec_result ret_len bytes) k core valid within =
     let body = test_ask ec_result ret_len (zero_padded 32 bytes) in
     let whole = padded-length 32 bytes within.2 in

@@ -1,5 +1,5 @@
 -- How a command goes on a controller whose flash tells its bytes, whatever befalls it.
-use Rattle.std.specs.Prelude.{◌≡◌, List, ⊤, IsTrue}
+use Rattle.std.specs.Prelude.{List, ⊤, IsTrue}
 use Rattle.std.specs.List.{list_any}
 use Rattle.ec_types.specs.declared.bus.BusKind.TheVariants.{Lpc}
 use Rattle.ec_model.specs.declared.event.Entry.{Entry}

@@ -3,10 +3,12 @@ use Rattle.std.specs.Prelude.{ℕ, zero, suc, ◌+◌, ◌-◌, ◌*◌, ◌/◌
 use Rattle.ec_model.specs.Packet.{request_packet}
 use Rattle.flash_dev.specs.declared.geometry.Region.{Region}
 use Rattle.flash_dev.specs.declared.geometry.Region.TheVariants.{Ro, Active, WpRo, Update}
-use Rattle.ec_model.specs.Bodies.{hello_ask, cmd_versions_ask1, region_info_ask, test_ask, flash_read_ask, flash_write_ask, flash_protect_ask}
+use Rattle.ec_types.specs.declared.image.ImageCopy.{ImageCopy}
+use Rattle.ec_types.specs.declared.image.ImageCopy.TheVariants as copy
+use Rattle.ec_model.specs.Bodies.{hello_ask, cmd_versions_ask1, region_info_ask, test_ask, flash_read_ask, flash_write_ask, flash_protect_ask, vboot_hash_ask, reboot_ask}
 use Rattle.ec_model.specs.InfoRows.{zero_padded}
 use Rattle.ectool_lines.specs.declared.tool.Tool.{Tool}
-use Rattle.ectool_lines.specs.declared.tool.Tool.TheVariants.{Hello, ChipInfo, CmdVersions, ProtoInfo, FlashInfo, RegionInfo, FlashRead, FlashWrite, FlashProtect, Test, Resend}
+use Rattle.ectool_lines.specs.declared.tool.Tool.TheVariants.{Hello, Version, ChipInfo, CmdVersions, ProtoInfo, FlashInfo, RegionInfo, FlashRead, FlashWrite, FlashProtect, Hash, HashAbort, HashStart, HashRange, Sysinfo, Reboot, Test, Resend}
 
 -- a command as it is sent: its number, its version, its body, and how many bytes a reply has that is a success
 pub record Asked : Type 0 where
@@ -56,6 +58,24 @@ abbrev pub test_command : (ec_result ret_len : ℕ) (bytes : List ℕ) → Asked
 test_command ec_result ret_len bytes =
     record { command = 0x0A; version = 0; body = test_ask ec_result ret_len (zero_padded 32 bytes); want = ret_len }
 
+-- the offset by which VBOOT_HASH names an image
+abbrev pub image_offset : ImageCopy → ℕ
+image_offset copy.Ro = 0xFFFFFFFE
+image_offset copy.Rw = 0xFFFFFFFD
+
+-- VBOOT_HASH with this cmd, on a range and behind a nonce, which is padded with zeros; its type and what is reserved are zero
+abbrev pub hash_command : (cmd offset size : ℕ) (nonce : List ℕ) (want : ℕ) → Asked
+hash_command cmd offset size nonce want = record {
+  command = 0x2A;
+  version = 0;
+  body = vboot_hash_ask cmd 0 (length nonce) 0 offset size (zero_padded 64 nonce);
+  want = want;
+}
+
+-- a hash of this range is started, behind a nonce
+abbrev pub hash_start_command : (offset size : ℕ) (nonce : List ℕ) → Asked
+hash_start_command offset size nonce = hash_command 2 offset size nonce 76
+
 -- how many commands a line sends on a bus with this packet limit
 abbrev pub count_of : (limit : ℕ) → Tool → ℕ
 count_of limit (FlashRead at size) = parts_of (limit - 8) size
@@ -65,6 +85,7 @@ count_of limit other = 1
 -- command k of a line, counted from 0: part k of what is read or written
 abbrev pub command_of : (limit : ℕ) → Tool → (k : ℕ) → Asked
 command_of limit Hello k = hello_command
+command_of limit Version k = question 0x02 0 100
 command_of limit ChipInfo k = question 0x05 0 96
 command_of limit (CmdVersions number) k = record { command = 0x08; version = 1; body = cmd_versions_ask1 number; want = 4 }
 command_of limit ProtoInfo k = question 0x0B 0 12
@@ -73,6 +94,12 @@ command_of limit (RegionInfo region) k =
     record { command = 0x16; version = 1; body = region_info_ask (region_number region); want = 8 }
 command_of limit (FlashProtect mask flags) k =
     record { command = 0x15; version = 1; body = flash_protect_ask mask flags; want = 12 }
+command_of limit Hash k = hash_command 0 0 0 [] 76
+command_of limit HashAbort k = hash_command 1 0 0 [] 0
+command_of limit (HashStart image nonce) k = hash_start_command (image_offset image) 0 nonce
+command_of limit (HashRange at size) k = hash_start_command at size []
+command_of limit Sysinfo k = question 0x1C 0 12
+command_of limit (Reboot cmd) k = record { command = 0xD2; version = 0; body = reboot_ask cmd 0; want = 0 }
 command_of limit (Test ec_result ret_len bytes) k = test_command ec_result ret_len bytes
 command_of limit Resend k = question 0xDB 0 0
 command_of limit (FlashRead at size) k =

@@ -1,5 +1,5 @@
 -- The texts that lines print.
-use Rattle.std.specs.Prelude.{ℕ, List, [], ◌∷◌, ◌++◌, length, take, drop, codes}
+use Rattle.std.specs.Prelude.{ℕ, ◌==◌, if◌then◌else◌, List, [], ◌∷◌, ◌++◌, length, take, drop, slice_index, codes}
 pub use Rattle.bench_io.specs.Texts.{printed, hex_text, field_text}
 use Rattle.ec_types.specs.LittleEndian.{u16_at, u32_at}
 use Rattle.std.specs.Fmt.{decimal}
@@ -7,7 +7,7 @@ use Rattle.hex.specs.Hex.{encode_lower}
 use Rattle.ec_types.specs.Tables.{status_name}
 use Rattle.host_transport.specs.Once.{Ending, Said, Bad, Silent, NoPower}
 use Rattle.ectool_lines.specs.declared.tool.Tool.{Tool}
-use Rattle.ectool_lines.specs.declared.tool.Tool.TheVariants.{Hello, ChipInfo, CmdVersions, ProtoInfo, FlashInfo, RegionInfo, FlashRead, FlashWrite, FlashProtect, Test, Resend}
+use Rattle.ectool_lines.specs.declared.tool.Tool.TheVariants.{Hello, Version, ChipInfo, CmdVersions, ProtoInfo, FlashInfo, RegionInfo, FlashRead, FlashWrite, FlashProtect, Hash, HashAbort, HashStart, HashRange, Sysinfo, Reboot, Test, Resend}
 
 -- a status by its number and its name
 abbrev pub status_text : ℕ → List ℕ
@@ -19,6 +19,16 @@ refusal_text (Said status body) = status_text status
 refusal_text Bad = codes "EC did not answer"
 refusal_text Silent = codes "EC did not answer"
 refusal_text NoPower = codes "EC has no power"
+
+-- an image by its number: 1 is RO, and any other one RW
+abbrev pub image_text : ℕ → List ℕ
+image_text current = if current == 1 then codes "RO" else codes "RW"
+
+-- GET_VERSION's reply, on three lines
+abbrev pub version_text : (ro rw_version : List ℕ) (current : ℕ) → List ℕ
+version_text ro rw_version current =
+    codes "RO version:    " ++ field_text ro ++ codes "\nRW version:    " ++ field_text rw_version
+    ++ codes "\nFirmware copy: " ++ image_text current
 
 -- GET_CHIP_INFO's reply
 abbrev pub chip_text : (vendor name revision : List ℕ) → List ℕ
@@ -42,9 +52,26 @@ abbrev pub protection_text : (flags valid writable : ℕ) → List ℕ
 protection_text flags valid writable =
     codes "flags " ++ hex_text flags ++ codes " valid " ++ hex_text valid ++ codes " writable " ++ hex_text writable
 
+-- VBOOT_HASH's reply, by its status: 1 is done, 2 busy, and any other one none
+abbrev pub hash_text : (status offset size : ℕ) (digest : List ℕ) → List ℕ
+hash_text status offset size digest =
+    if status == 1
+    then codes "hash done offset " ++ decimal offset ++ codes " size " ++ decimal size ++ codes " sha256 " ++ encode_lower (take 32 digest) else
+    if status == 2 then codes "hash busy" else codes "hash none"
+
+-- the same by the columns of the reply
+abbrev pub hash_reply : List ℕ → List ℕ
+hash_reply body = hash_text (slice_index body 0) (u32_at 4 body) (u32_at 8 body) (drop 12 body)
+
+-- SYSINFO's reply, on three lines
+abbrev pub sysinfo_text : (reset_flags current flags : ℕ) → List ℕ
+sysinfo_text reset_flags current flags =
+    codes "reset flags " ++ hex_text reset_flags ++ codes "\ncopy " ++ image_text current ++ codes "\nflags " ++ hex_text flags
+
 -- what the reply to one of its commands gives to a line's text
 abbrev pub reply_text : Tool → List ℕ → List ℕ
 reply_text Hello body = []
+reply_text Version body = version_text (take 32 body) (take 32 (drop 32 body)) (u32_at 96 body)
 reply_text ChipInfo body = chip_text (take 32 body) (take 32 (drop 32 body)) (take 32 (drop 64 body))
 reply_text (CmdVersions number) body = codes "versions " ++ hex_text (u32_at 0 body)
 reply_text ProtoInfo body = proto_info_text (u32_at 0 body) (u16_at 4 body) (u16_at 6 body) (u32_at 8 body)
@@ -55,6 +82,12 @@ reply_text (RegionInfo region) body =
 reply_text (FlashRead at size) body = encode_lower body
 reply_text (FlashWrite at bytes) body = []
 reply_text (FlashProtect mask flags) body = protection_text (u32_at 0 body) (u32_at 4 body) (u32_at 8 body)
+reply_text Hash body = hash_reply body
+reply_text HashAbort body = []
+reply_text (HashStart image nonce) body = hash_reply body
+reply_text (HashRange at size) body = hash_reply body
+reply_text Sysinfo body = sysinfo_text (u32_at 0 body) (u32_at 4 body) (u32_at 8 body)
+reply_text (Reboot cmd) body = []
 reply_text (Test ec_result ret_len bytes) body = encode_lower body
 reply_text Resend body = []
 
@@ -67,6 +100,8 @@ replies_text tool (body ∷ bodies) = reply_text tool body ++ replies_text tool 
 abbrev pub closing_text : Tool → List ℕ
 closing_text Hello = codes "EC says hello!"
 closing_text (FlashWrite at bytes) = codes "wrote " ++ decimal (length bytes) ++ codes " bytes"
+closing_text HashAbort = codes "ok"
+closing_text (Reboot cmd) = codes "ok"
 closing_text Resend = codes "ok"
 closing_text other = []
 

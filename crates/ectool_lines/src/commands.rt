@@ -1,22 +1,41 @@
 // The commands that a line sends.
 ghost use Rattle.std.specs.Prelude.{◌≡◌, ◌≤◌, ◌<◌, ◌+◌, ◌-◌, ◌*◌, [], length, take, drop, min};
 ghost use Rattle.ectool_lines.specs.Tools.{IsInRange};
-ghost use Rattle.ectool_lines.specs.Requests.{parts_of, count_of, command_of, hello_command, question, region_number, test_command, read_command, write_command};
-ghost use Rattle.ec_model.specs.Bodies.{cmd_versions_ask1, region_info_ask, flash_protect_ask};
+ghost use Rattle.ectool_lines.specs.Requests.{parts_of, count_of, command_of, hello_command, question, region_number, image_offset, hash_command, hash_start_command, test_command, read_command, write_command};
+ghost use Rattle.ec_model.specs.Bodies.{cmd_versions_ask1, region_info_ask, flash_protect_ask, reboot_ask};
 ghost use Rattle.ec_model.specs.InfoRows.{zero_padded};
 ghost use Rattle.ectool_lines.specs.Sending.{asked_of};
 
 use crate::Tool;
 use ec_packet::Packet;
-use ec_params::{
-    CmdVersionsAsk1, FlashProtectAsk, FlashReadAsk, FlashWriteAsk, HelloAsk, RegionInfoAsk, TestAsk,
+use ec_params::command::{
+    FLASH_INFO, FLASH_PROTECT, FLASH_READ, FLASH_REGION_INFO, FLASH_WRITE, GET_CHIP_INFO,
+    GET_COMMAND_VERSIONS, GET_PROTOCOL_INFO, GET_VERSION, HELLO, REBOOT_EC, RESEND_RESPONSE,
+    SYSINFO, TEST_PROTOCOL, VBOOT_HASH,
 };
+use ec_params::{
+    CmdVersionsAsk1, FlashProtectAsk, FlashReadAsk, FlashWriteAsk, HelloAsk, RebootAsk,
+    RegionInfoAsk, TestAsk, VbootHashAsk,
+};
+use ec_types::ImageCopy;
 use flash_dev::Region;
 use script_words::HexBytes;
 use std::cmp::min;
 
 /// The number that the host sends with HELLO.
 const HELLO_NUMBER: u32 = 0xA0B0_C0D0;
+
+// What VBOOT_HASH is asked for.
+const HASH_GET: u8 = 0;
+
+const HASH_ABORT: u8 = 1;
+
+const HASH_START: u8 = 2;
+
+// The offsets by which VBOOT_HASH names an image.
+const HASH_OFFSET_RO: u32 = 0xFFFF_FFFE;
+
+const HASH_OFFSET_RW: u32 = 0xFFFF_FFFD;
 
 /// A command as it is sent, but for its body.
 #[derive(Clone, Copy)]
@@ -55,18 +74,25 @@ impl<'a> Tool<'a> {
         let limit = usize::from(limit);
         match self {
             Tool::Hello => hello(body),
-            Tool::ChipInfo => question(0x05, 0, 96),
+            Tool::Version => question(GET_VERSION, 0, 100),
+            Tool::ChipInfo => question(GET_CHIP_INFO, 0, 96),
             Tool::CmdVersions { number } => cmd_versions(*number, body),
-            Tool::ProtoInfo => question(0x0B, 0, 12),
-            Tool::FlashInfo => question(0x10, 1, 24),
+            Tool::ProtoInfo => question(GET_PROTOCOL_INFO, 0, 12),
+            Tool::FlashInfo => question(FLASH_INFO, 1, 24),
             Tool::RegionInfo { region } => region_info(*region, body),
             Tool::FlashProtect { mask, flags } => flash_protect(*mask, *flags, body),
+            Tool::Hash => hash(HASH_GET, 76, body),
+            Tool::HashAbort => hash(HASH_ABORT, 0, body),
+            Tool::HashStart { copy, nonce } => hash_start(image_offset(*copy), 0, nonce, body),
+            Tool::HashRange { at, size } => hash_start(*at, *size, &HexBytes::none(), body),
+            Tool::Sysinfo => question(SYSINFO, 0, 12),
+            Tool::Reboot { cmd } => reboot(*cmd, body),
             Tool::Test {
                 ec_result,
                 ret_len,
                 bytes,
             } => test(*ec_result, *ret_len, bytes, body),
-            Tool::Resend => question(0xDB, 0, 0),
+            Tool::Resend => question(RESEND_RESPONSE, 0, 0),
             Tool::FlashRead { at, size } => read(*at, *size as usize, limit - 8, k, body),
             Tool::FlashWrite { at, bytes } => write(*at, bytes, limit - 16, k, body),
         }
@@ -88,7 +114,7 @@ fn hello(body: &mut Packet) -> Command
 {
     HelloAsk { x: HELLO_NUMBER }.write(body);
     Command {
-        number: 0x01,
+        number: HELLO,
         version: 0,
         want: 4,
     }
@@ -118,7 +144,7 @@ fn cmd_versions(command: u16, body: &mut Packet) -> Command
 {
     CmdVersionsAsk1 { command }.write(body);
     Command {
-        number: 0x08,
+        number: GET_COMMAND_VERSIONS,
         version: 1,
         want: 4,
     }
@@ -152,7 +178,7 @@ fn region_info(region: Region, body: &mut Packet) -> Command
     };
     ask.write(body);
     Command {
-        number: 0x16,
+        number: FLASH_REGION_INFO,
         version: 1,
         want: 8,
     }
@@ -170,18 +196,86 @@ fn flash_protect(mask: u32, flags: u32, body: &mut Packet) -> Command
 {
     FlashProtectAsk { mask, flags }.write(body);
     Command {
-        number: 0x15,
+        number: FLASH_PROTECT,
         version: 1,
         want: 12,
     }
 }
 
-// Bytes with zeros behind them.
-fn padded(bytes: &HexBytes<'_>) -> [u8; 32]
-    requires { length bytes.now ≤ 32 }
-    ensures { result ≡ zero_padded 32 bytes.now }
+// The offset by which VBOOT_HASH names an image.
+fn image_offset(copy: ImageCopy) -> u32
+    ensures { result ≡ image_offset copy }
 {
-    let mut buf = [0; 32];
+    match copy {
+        ImageCopy::Ro => HASH_OFFSET_RO,
+        ImageCopy::Rw => HASH_OFFSET_RW,
+    }
+}
+
+// VBOOT_HASH with a cmd that looks at no other field.
+fn hash(cmd: u8, want: usize, body: &mut Packet) -> Command
+    requires { body.old ≡ [] }
+    ensures { asked_of result body.new ≡ hash_command cmd 0 0 [] want }
+{
+    let ask = VbootHashAsk {
+        cmd,
+        hash_type: 0,
+        nonce_size: 0,
+        reserved: 0,
+        offset: 0,
+        size: 0,
+        nonce: [0; 64],
+    };
+    ask.write(body);
+    Command {
+        number: VBOOT_HASH,
+        version: 0,
+        want,
+    }
+}
+
+// VBOOT_HASH that starts a hash of a range, behind a nonce.
+fn hash_start(offset: u32, size: u32, nonce: &HexBytes<'_>, body: &mut Packet) -> Command
+    requires short { length nonce.now ≤ 64 }
+    requires empty { body.old ≡ [] }
+    ensures { asked_of result body.new ≡ hash_start_command offset size nonce.now }
+{
+    let ask = VbootHashAsk {
+        cmd: HASH_START,
+        hash_type: 0,
+        nonce_size: nonce.len() as u8,
+        reserved: 0,
+        offset,
+        size,
+        nonce: padded(nonce),
+    };
+    ask.write(body);
+    Command {
+        number: VBOOT_HASH,
+        version: 0,
+        want: 76,
+    }
+}
+
+// REBOOT_EC.
+fn reboot(cmd: u8, body: &mut Packet) -> Command
+    requires { body.old ≡ [] }
+    ensures { asked_of result body.new ≡ record { command = 0xD2; version = 0; body = reboot_ask cmd 0; want = 0 } }
+{
+    RebootAsk { cmd, flags: 0 }.write(body);
+    Command {
+        number: REBOOT_EC,
+        version: 0,
+        want: 0,
+    }
+}
+
+// Bytes with zeros behind them.
+fn padded<const SIZE: usize>(bytes: &HexBytes<'_>) -> [u8; SIZE]
+    requires { length bytes.now ≤ SIZE }
+    ensures { result ≡ zero_padded SIZE bytes.now }
+{
+    let mut buf = [0; SIZE];
     bytes.decode(0, &mut buf[..bytes.len()]);
     buf
 }
@@ -199,7 +293,7 @@ fn test(ec_result: u32, ret_len: u32, bytes: &HexBytes<'_>, body: &mut Packet) -
     };
     ask.write(body);
     Command {
-        number: 0x0A,
+        number: TEST_PROTOCOL,
         version: 0,
         want: ret_len as usize,
     }
@@ -222,7 +316,7 @@ fn read(at: u32, size: usize, most: usize, k: usize, body: &mut Packet) -> Comma
     };
     ask.write(body);
     Command {
-        number: 0x11,
+        number: FLASH_READ,
         version: 0,
         want: part,
     }
@@ -247,7 +341,7 @@ fn write(at: u32, bytes: &HexBytes<'_>, most: usize, k: usize, body: &mut Packet
     };
     ask.write(body);
     Command {
-        number: 0x12,
+        number: FLASH_WRITE,
         version: 1,
         want: 0,
     }

@@ -1,17 +1,28 @@
 // Reading a line.
-ghost use Rattle.std.specs.Prelude.{◌≡◌, ◌∷◌, IfOk, IfSome};
-ghost use Rattle.script_words.specs.Faults.{by_kind};
+ghost use Rattle.std.specs.Prelude.{◌≡◌, ◌∷◌, IsTrue, IfOk, IfSome};
+ghost use Rattle.ec_types.specs.declared.why.Why.TheVariants.{Word};
+ghost use Rattle.script_words.specs.Faults.{kind_of, by_kind};
 ghost use Rattle.script_words.specs.Lines.{checked};
 ghost use Rattle.script_words.specs.Words.{words_of};
 ghost use Rattle.script_words.specs.Forms.{alone, with_one, with_two, with_three, number_to, hex_to};
-ghost use Rattle.ectool_lines.specs.Tools.{region_named, region_to, protect_named, protect_bits, protect_form, protect_by, tool_of, tool_by, IsInRange};
+ghost use Rattle.ectool_lines.specs.Tools.{region_named, region_to, protect_named, protect_bits, protect_form, protect_by, image_named, image_to, fixed_to, hash_with_two, hash_behind, hash_form, hash_by, reboot_named, reboot_to, is_reboot, tool_of, tool_by, IsInRange};
 
 use crate::Tool;
+use ec_types::ImageCopy;
 use flash_dev::Region;
 use script_words::{
-    Fault, HexBytes, Wanted, check_line, is_word, next_word, no_words, number_to, one_word,
-    three_words, two_or, two_words,
+    Fault, HexBytes, Wanted, check_line, is_word, next_word, no_words, none_or, number_to,
+    one_word, three_words, two_or, two_words,
 };
+
+// What REBOOT_EC is asked for.
+const CANCEL: u8 = 0;
+
+const JUMP_TO_RO: u8 = 1;
+
+const JUMP_TO_RW: u8 = 2;
+
+const DISABLE_JUMP: u8 = 5;
 
 /// What a line without its line feed says, or the first thing that is wrong with it: its length, its bytes, its first
 /// word, how many words there are behind it, and at last the first of these from the left that is not what it should
@@ -41,6 +52,8 @@ fn by_words<'a>(first: &[u8], rest: &'a [u8]) -> Result<Tool<'a>, Fault>
 {
     if is_word(first, b"hello") {
         alone(Tool::Hello, rest)
+    } else if is_word(first, b"version") {
+        alone(Tool::Version, rest)
     } else if is_word(first, b"chipinfo") {
         alone(Tool::ChipInfo, rest)
     } else if is_word(first, b"cmdversions") {
@@ -57,6 +70,12 @@ fn by_words<'a>(first: &[u8], rest: &'a [u8]) -> Result<Tool<'a>, Fault>
         flash_write(rest)
     } else if is_word(first, b"flashprotect") {
         flash_protect(rest)
+    } else if is_word(first, b"echash") {
+        hash(rest)
+    } else if is_word(first, b"sysinfo") {
+        alone(Tool::Sysinfo, rest)
+    } else if is_word(first, b"reboot_ec") {
+        reboot(rest)
     } else if is_word(first, b"test") {
         test(rest)
     } else if is_word(first, b"resend") {
@@ -186,6 +205,128 @@ fn protect_bits(form: &[u8], words: &[u8]) -> Result<Tool<'static>, Fault>
         mask: number_to(3, mask, u32::MAX)?,
         flags: number_to(4, flags, u32::MAX)?,
     })
+}
+
+fn hash(words: &[u8]) -> Result<Tool<'_>, Fault>
+    ensures tool { by_kind result ≡ hash_by (words_of words.now) }
+    ensures within { IfOk result IsInRange }
+{
+    match next_word(words) {
+        Some((form, rest)) => hash_form(form, rest),
+        None => Ok(Tool::Hash),
+    }
+}
+
+// `echash` behind the word of its form.
+fn hash_form<'a>(form: &[u8], words: &'a [u8]) -> Result<Tool<'a>, Fault>
+    ensures tool { by_kind result ≡ hash_form form.now (words_of words.now) }
+    ensures within { IfOk result IsInRange }
+{
+    match next_word(words) {
+        Some((first, rest)) => hash_behind(form, first, rest),
+        None => {
+            fixed(2, form, b"abort", Wanted::HashAbort)?;
+            Ok(Tool::HashAbort)
+        }
+    }
+}
+
+// `echash` behind the word of its form and another one.
+fn hash_behind<'a>(form: &[u8], first: &[u8], words: &'a [u8]) -> Result<Tool<'a>, Fault>
+    ensures tool { by_kind result ≡ hash_behind form.now first.now (words_of words.now) }
+    ensures within { IfOk result IsInRange }
+{
+    match next_word(words) {
+        Some((second, rest)) => {
+            none_or(rest, Fault::of_line(Wanted::HashWords))?;
+            hash_with_two(form, first, second)
+        }
+        None => {
+            fixed(2, form, b"start", Wanted::HashStart)?;
+            Ok(Tool::HashStart {
+                copy: image(3, first)?,
+                nonce: HexBytes::none(),
+            })
+        }
+    }
+}
+
+// `echash start A HEX` and `echash range O N`.
+fn hash_with_two<'a>(form: &[u8], first: &[u8], second: &'a [u8]) -> Result<Tool<'a>, Fault>
+    ensures tool { by_kind result ≡ hash_with_two form.now first.now second.now }
+    ensures within { IfOk result IsInRange }
+{
+    if is_word(form, b"start") {
+        Ok(Tool::HashStart {
+            copy: image(3, first)?,
+            nonce: HexBytes::of_word(4, second, 64)?,
+        })
+    } else if is_word(form, b"range") {
+        Ok(Tool::HashRange {
+            at: number_to(3, first, u32::MAX)?,
+            size: number_to(4, second, u32::MAX)?,
+        })
+    } else {
+        Err(Fault::of_word(2, Wanted::HashStartOrRange))
+    }
+}
+
+// A word that stands at this place of the line, which has to be this one.
+fn fixed(place: u8, word: &[u8], name: &[u8], wanted: Wanted) -> Result<(), Fault>
+    requires { kind_of wanted ≡ Word }
+    ensures { by_kind result ≡ fixed_to name.now word.now }
+{
+    if !is_word(word, name) {
+        return Err(Fault::of_word(place, wanted));
+    }
+    Ok(())
+}
+
+// The image that a word names which stands at this place of the line.
+fn image(place: u8, word: &[u8]) -> Result<ImageCopy, Fault>
+    ensures { by_kind result ≡ image_to word.now }
+{
+    image_named(word).ok_or(Fault::of_word(place, Wanted::Image))
+}
+
+// The image that a word names.
+fn image_named(word: &[u8]) -> Option<ImageCopy>
+    ensures { result ≡ image_named word.now }
+{
+    if is_word(word, b"ro") {
+        Some(ImageCopy::Ro)
+    } else if is_word(word, b"rw") {
+        Some(ImageCopy::Rw)
+    } else {
+        None
+    }
+}
+
+fn reboot(words: &[u8]) -> Result<Tool<'_>, Fault>
+    ensures tool { by_kind result ≡ with_one reboot_to Tool.Reboot (words_of words.now) }
+    ensures within { IfOk result IsInRange }
+{
+    let word = one_word(words)?;
+    let cmd = reboot_named(word).ok_or(Fault::of_word(2, Wanted::Reboot))?;
+    Ok(Tool::Reboot { cmd })
+}
+
+// What a word asks REBOOT_EC for.
+fn reboot_named(word: &[u8]) -> Option<u8>
+    ensures cmd { result ≡ reboot_named word.now }
+    ensures within { IfSome result (λ cmd. IsTrue (is_reboot cmd)) }
+{
+    if is_word(word, b"cancel") {
+        Some(CANCEL)
+    } else if is_word(word, b"RO") {
+        Some(JUMP_TO_RO)
+    } else if is_word(word, b"RW") {
+        Some(JUMP_TO_RW)
+    } else if is_word(word, b"disable-jump") {
+        Some(DISABLE_JUMP)
+    } else {
+        None
+    }
 }
 
 fn test(words: &[u8]) -> Result<Tool<'_>, Fault>

@@ -3,14 +3,20 @@ ghost use Rattle.std.specs.Prelude.{◌≡◌, ◌≤◌, ◌+◌, ◌*◌, ◌+
 ghost use Rattle.std.specs.Fmt.{decimal};
 ghost use Rattle.ec_types.specs.LittleEndian.{u32_at};
 ghost use Rattle.ectool_lines.specs.Requests.{command_of};
-ghost use Rattle.ectool_lines.specs.Texts.{reply_text, hex_text, chip_text, proto_info_text, flash_info_text, protection_text};
+ghost use Rattle.ectool_lines.specs.Texts.{reply_text, hex_text, image_text, version_text, chip_text, proto_info_text, flash_info_text, protection_text, hash_text, hash_reply, sysinfo_text};
 ghost use Rattle.ectool_lines.specs.declared.tool.Tool.TheVariants as tool;
 
 use crate::Tool;
 use bench_io::LineText;
 use ec_params::{
     ChipSay, CmdVersionsSay, FlashInfoSay1, FlashProtectSay, ProtoInfoSay, RegionInfoSay,
+    SysinfoSay, VbootHashSay, VersionSay,
 };
+
+// The statuses of a hash that are told apart.
+const HASH_DONE: u8 = 1;
+
+const HASH_BUSY: u8 = 2;
 
 /// Appends what the reply to a command of the line gives to its text.
 pub(crate) fn add_reply(out: &mut LineText, tool: &Tool<'_>, reply: &[u8])
@@ -21,15 +27,54 @@ pub(crate) fn add_reply(out: &mut LineText, tool: &Tool<'_>, reply: &[u8])
     ensures long { length out.new ≤ length out.old + 500 }
 {
     match tool {
-        Tool::Hello | Tool::FlashWrite { .. } | Tool::Resend => {}
+        Tool::Hello
+        | Tool::FlashWrite { .. }
+        | Tool::HashAbort
+        | Tool::Reboot { .. }
+        | Tool::Resend => {}
+        Tool::Version => add_version(out, reply),
         Tool::ChipInfo => add_chip(out, reply),
         Tool::CmdVersions { .. } => add_versions(out, reply),
         Tool::ProtoInfo => add_proto_info(out, reply),
         Tool::FlashInfo => add_flash_info(out, reply),
         Tool::RegionInfo { .. } => add_range(out, reply),
         Tool::FlashProtect { .. } => add_protection(out, reply),
+        Tool::Hash | Tool::HashStart { .. } | Tool::HashRange { .. } => add_hash(out, reply),
+        Tool::Sysinfo => add_sysinfo(out, reply),
         Tool::FlashRead { .. } | Tool::Test { .. } => out.append_hex(reply),
     }
+}
+
+// GET_VERSION's reply.
+fn add_version(out: &mut LineText, reply: &[u8])
+    requires sized { length reply.now ≡ 100 }
+    requires fits { length out.old ≤ 11500 }
+    ensures text { out.new ≡ out.old ++ reply_text tool.Version reply.now }
+    ensures long { length out.new ≤ length out.old + 200 }
+{
+    version(out, &VersionSay::from_bytes(reply));
+}
+
+fn version(out: &mut LineText, say: &VersionSay)
+    requires fits { length out.old ≤ 11500 }
+    ensures text { out.new ≡ out.old ++ version_text say.now.ro say.now.rw say.now.current }
+    ensures ro { length say.now.ro ≡ 32 }
+    ensures rw_version { length say.now.rw ≡ 32 }
+    ensures reserved { length say.now.reserved ≡ 32 }
+    ensures long { length out.new ≤ length out.old + 200 }
+{
+    out.append_field(b"RO version:    ", &say.ro);
+    out.append_field(b"\nRW version:    ", &say.rw);
+    out.append(b"\nFirmware copy: ");
+    out.append(image_name(say.current));
+}
+
+// The name of an image, by its number.
+fn image_name(current: u32) -> &'static [u8]
+    ensures name { result.now ≡ image_text current }
+    ensures short { length result.now ≡ 2 }
+{
+    if current == 1 { b"RO" } else { b"RW" }
 }
 
 // GET_CHIP_INFO's reply.
@@ -39,10 +84,7 @@ fn add_chip(out: &mut LineText, reply: &[u8])
     ensures text { out.new ≡ out.old ++ reply_text tool.ChipInfo reply.now }
     ensures long { length out.new ≤ length out.old + 200 }
 {
-    match ChipSay::read(reply) {
-        Some(say) => chip(out, &say),
-        None => unreachable!(),
-    }
+    chip(out, &ChipSay::from_bytes(reply));
 }
 
 fn chip(out: &mut LineText, say: &ChipSay)
@@ -65,10 +107,8 @@ fn add_versions(out: &mut LineText, reply: &[u8])
     ensures text { out.new ≡ out.old ++ (codes "versions " ++ hex_text (u32_at 0 reply.now)) }
     ensures long { length out.new ≤ length out.old + 200 }
 {
-    match CmdVersionsSay::read(reply) {
-        Some(say) => out.append_mask(b"versions ", say.mask),
-        None => unreachable!(),
-    }
+    let say = CmdVersionsSay::from_bytes(reply);
+    out.append_mask(b"versions ", say.mask);
 }
 
 // GET_PROTOCOL_INFO's reply.
@@ -78,10 +118,7 @@ fn add_proto_info(out: &mut LineText, reply: &[u8])
     ensures text { out.new ≡ out.old ++ reply_text tool.ProtoInfo reply.now }
     ensures long { length out.new ≤ length out.old + 200 }
 {
-    match ProtoInfoSay::read(reply) {
-        Some(say) => proto_info(out, &say),
-        None => unreachable!(),
-    }
+    proto_info(out, &ProtoInfoSay::from_bytes(reply));
 }
 
 fn proto_info(out: &mut LineText, say: &ProtoInfoSay)
@@ -103,10 +140,7 @@ fn add_flash_info(out: &mut LineText, reply: &[u8])
     ensures text { out.new ≡ out.old ++ reply_text tool.FlashInfo reply.now }
     ensures long { length out.new ≤ length out.old + 200 }
 {
-    match FlashInfoSay1::read(reply) {
-        Some(say) => flash_info(out, &say),
-        None => unreachable!(),
-    }
+    flash_info(out, &FlashInfoSay1::from_bytes(reply));
 }
 
 fn flash_info(out: &mut LineText, say: &FlashInfoSay1)
@@ -131,13 +165,9 @@ fn add_range(out: &mut LineText, reply: &[u8])
         (u32_at 4 reply.now)) }
     ensures long { length out.new ≤ length out.old + 200 }
 {
-    match RegionInfoSay::read(reply) {
-        Some(say) => {
-            out.append_number(b"offset ", say.offset);
-            out.append_number(b" size ", say.size);
-        }
-        None => unreachable!(),
-    }
+    let say = RegionInfoSay::from_bytes(reply);
+    out.append_number(b"offset ", say.offset);
+    out.append_number(b" size ", say.size);
 }
 
 // FLASH_PROTECT's reply.
@@ -147,10 +177,7 @@ fn add_protection(out: &mut LineText, reply: &[u8])
     ensures text { out.new ≡ out.old ++ protection_text (u32_at 0 reply.now) (u32_at 4 reply.now) (u32_at 8 reply.now) }
     ensures long { length out.new ≤ length out.old + 200 }
 {
-    match FlashProtectSay::read(reply) {
-        Some(say) => protection(out, &say),
-        None => unreachable!(),
-    }
+    protection(out, &FlashProtectSay::from_bytes(reply));
 }
 
 fn protection(out: &mut LineText, say: &FlashProtectSay)
@@ -161,4 +188,60 @@ fn protection(out: &mut LineText, say: &FlashProtectSay)
     out.append_mask(b"flags ", say.flags);
     out.append_mask(b" valid ", say.valid);
     out.append_mask(b" writable ", say.writable);
+}
+
+// VBOOT_HASH's reply.
+fn add_hash(out: &mut LineText, reply: &[u8])
+    requires sized { length reply.now ≡ 76 }
+    requires fits { length out.old ≤ 11500 }
+    ensures text { out.new ≡ out.old ++ hash_reply reply.now }
+    ensures long { length out.new ≤ length out.old + 200 }
+{
+    hash(out, &VbootHashSay::from_bytes(reply));
+}
+
+fn hash(out: &mut LineText, say: &VbootHashSay)
+    requires fits { length out.old ≤ 11500 }
+    ensures text { out.new ≡ out.old ++ hash_text say.now.status say.now.offset say.now.size say.now.digest }
+    ensures long { length out.new ≤ length out.old + 200 }
+{
+    match say.status {
+        HASH_DONE => done_hash(out, say),
+        HASH_BUSY => out.append(b"hash busy"),
+        _ => out.append(b"hash none"),
+    }
+}
+
+// A hash that is done.
+fn done_hash(out: &mut LineText, say: &VbootHashSay)
+    requires fits { length out.old ≤ 11500 }
+    ensures text { out.new ≡ out.old ++ hash_text 1 say.now.offset say.now.size say.now.digest }
+    ensures long { length out.new ≤ length out.old + 200 }
+{
+    out.append(b"hash done");
+    out.append_number(b" offset ", say.offset);
+    out.append_number(b" size ", say.size);
+    out.append(b" sha256 ");
+    out.append_hex(&say.digest[..32]);
+}
+
+// SYSINFO's reply.
+fn add_sysinfo(out: &mut LineText, reply: &[u8])
+    requires sized { length reply.now ≡ 12 }
+    requires fits { length out.old ≤ 11500 }
+    ensures text { out.new ≡ out.old ++ reply_text tool.Sysinfo reply.now }
+    ensures long { length out.new ≤ length out.old + 200 }
+{
+    sysinfo(out, &SysinfoSay::from_bytes(reply));
+}
+
+fn sysinfo(out: &mut LineText, say: &SysinfoSay)
+    requires fits { length out.old ≤ 11500 }
+    ensures text { out.new ≡ out.old ++ sysinfo_text say.now.reset_flags say.now.current say.now.flags }
+    ensures long { length out.new ≤ length out.old + 200 }
+{
+    out.append_mask(b"reset flags ", say.reset_flags);
+    out.append(b"\ncopy ");
+    out.append(image_name(say.current));
+    out.append_mask(b"\nflags ", say.flags);
 }

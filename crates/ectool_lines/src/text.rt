@@ -58,7 +58,7 @@ fn append_closing(out: &mut LineText, tool: &Tool<'_>)
     match tool {
         Tool::Hello => out.append(b"EC says hello!"),
         Tool::FlashWrite { at: _, bytes } => append_written(out, bytes.len()),
-        Tool::Resend => out.append(b"ok"),
+        Tool::HashAbort | Tool::Reboot { .. } | Tool::Resend => out.append(b"ok"),
         _ => {}
     }
 }

@@ -1,4 +1,5 @@
 // What a line asks of the controller.
+use ec_types::ImageCopy;
 use flash_dev::Region;
 use script_words::HexBytes;
 
@@ -7,6 +8,8 @@ use script_words::HexBytes;
 pub enum Tool<'a> {
     /// `hello`
     Hello,
+    /// `version`
+    Version,
     /// `chipinfo`
     ChipInfo,
     /// `cmdversions N`
@@ -42,6 +45,31 @@ pub enum Tool<'a> {
         mask: u32,
         /// What they are to be.
         flags: u32,
+    },
+    /// `echash`
+    Hash,
+    /// `echash abort`
+    HashAbort,
+    /// `echash start A` and `echash start A HEX`
+    HashStart {
+        /// The image whose bytes are to be hashed.
+        copy: ImageCopy,
+        /// What is hashed in front of it: at most 64 bytes.
+        nonce: HexBytes<'a>,
+    },
+    /// `echash range O N`
+    HashRange {
+        /// The first byte to hash, from the flash's first byte.
+        at: u32,
+        /// How many bytes are to be hashed.
+        size: u32,
+    },
+    /// `sysinfo`
+    Sysinfo,
+    /// `reboot_ec C`
+    Reboot {
+        /// 0 nothing, 1 a jump to the read-only image, 2 one to the writable image, 5 no jumps from now on.
+        cmd: u8,
     },
     /// `test R N HEX`
     Test {

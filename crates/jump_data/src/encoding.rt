@@ -1,8 +1,8 @@
 // Jump data as bytes.
-ghost use Rattle.std.specs.Prelude.{◌≡◌, ◌≤◌, ◌+◌, [], ◌++◌, length, IsTrue};
+ghost use Rattle.std.specs.Prelude.{◌≡◌, ◌≤◌, ◌<◌, ◌^◌, ◌+◌, [], ◌++◌, length, IsTrue};
 ghost use Rattle.ec_types.specs.LittleEndian.{u16_bytes, u32_bytes};
 ghost use Rattle.jump_data.specs.Tags.{front, tag_bytes, tags_bytes};
-ghost use Rattle.jump_data.specs.Spelling.{hash_tags, has_switches, spelling};
+ghost use Rattle.jump_data.specs.Spelling.{IsHashKept, IsKept, hash_tags, has_switches, spelling};
 
 use crate::{JumpData, TagLayout};
 use arrayvec::ArrayVec;
@@ -25,6 +25,8 @@ impl JumpData {
         requires empty { out.old.items ≡ [] }
         requires switches { IsTrue (has_switches self.now) }
         ensures spelled { out.new.items ≡ spelling self.now }
+        // What is written can be read: `decode` gives it back.
+        ensures kept { IsKept self.now }
         ensures short { length out.new.items ≤ 80 }
     {
         match *self {
@@ -59,6 +61,7 @@ fn put_old(out: &mut ArrayVec<u8, 256>, flags: u32)
 pub fn put_front(out: &mut ArrayVec<u8, 256>, layout: TagLayout, flags: u32, total: u32)
     requires { length out.old.items ≤ 236 }
     ensures spelled { out.new.items ≡ out.old.items ++ front layout flags total }
+    ensures small { flags < 2 ^ 32 }
     ensures most { length out.new.items ≤ length out.old.items + 20 }
 {
     put_u32(out, MAGIC);
@@ -80,6 +83,7 @@ pub fn put_front(out: &mut ArrayVec<u8, 256>, layout: TagLayout, flags: u32, tot
 // How many bytes the tag of a hash has, where there is one.
 fn hash_size(hash: Option<KeptHash>) -> u32
     ensures size { result ≡ length (tags_bytes (hash_tags hash)) }
+    ensures kept { IsHashKept hash }
     ensures most { result ≤ 44 }
 {
     match hash {
@@ -94,6 +98,7 @@ fn put_protection(out: &mut ArrayVec<u8, 256>, protect: [u8; 4])
     ensures spelled { out.new.items ≡ out.old.items ++ tag_bytes (record { number = 0x5057; content = protect }) }
     ensures most { length out.new.items ≤ length out.old.items + 8 }
     ensures size { length (tag_bytes (record { number = 0x5057; content = protect })) ≡ 8 }
+    ensures four { length protect ≡ 4 }
 {
     put_tag(out, PROTECTION, &protect);
 }
@@ -121,6 +126,7 @@ fn put_saved(out: &mut ArrayVec<u8, 256>, saved: u16)
     requires { length out.old.items ≤ 200 }
     ensures spelled { out.new.items ≡ out.old.items ++
         tag_bytes (record { number = 0x5253; content = u16_bytes saved }) }
+    ensures small { saved < 2 ^ 16 }
     ensures most { length out.new.items ≤ length out.old.items + 8 }
 {
     let mut content = [0; 2];

@@ -12,8 +12,8 @@ pub enum Wanted {
     ShortLine,
     #[error("printable ASCII")]
     Printable,
-    #[error("one of hello, chipinfo, cmdversions, protoinfo, flashinfo, regioninfo, flashread, flashwrite, flashprotect, \
-             test, resend, pin, power, reset, tick, out and in")]
+    #[error("one of hello, version, chipinfo, cmdversions, protoinfo, flashinfo, regioninfo, flashread, flashwrite, \
+             flashprotect, echash, sysinfo, reboot_ec, test, resend, pin, power, reset, tick, out and in")]
     FirstWord,
     /// So many words behind the first one.
     #[error("{count}")]
@@ -21,6 +21,9 @@ pub enum Wanted {
     /// As many words behind `flashprotect` as one of its forms has.
     #[error("0, 1 or 3")]
     ProtectWords,
+    /// As many words behind `echash` as one of its forms has.
+    #[error("0, 1, 2 or 3")]
+    HashWords,
     #[error("on or off")]
     Switch,
     #[error("pin or watchdog")]
@@ -31,6 +34,16 @@ pub enum Wanted {
     Protection,
     #[error("bits")]
     Bits,
+    #[error("abort")]
+    HashAbort,
+    #[error("start")]
+    HashStart,
+    #[error("start or range")]
+    HashStartOrRange,
+    #[error("ro or rw")]
+    Image,
+    #[error("cancel, RO, RW or disable-jump")]
+    Reboot,
     /// A number, with both ends.
     #[error("a number from {least} to {most}")]
     Number { least: u32, most: u32 },
@@ -55,8 +68,13 @@ impl Wanted {
             | Wanted::Cause
             | Wanted::Region
             | Wanted::Protection
-            | Wanted::Bits => Why::Word,
-            Wanted::Words { .. } | Wanted::ProtectWords => Why::Count,
+            | Wanted::Bits
+            | Wanted::HashAbort
+            | Wanted::HashStart
+            | Wanted::HashStartOrRange
+            | Wanted::Image
+            | Wanted::Reboot => Why::Word,
+            Wanted::Words { .. } | Wanted::ProtectWords | Wanted::HashWords => Why::Count,
             Wanted::Number { .. } | Wanted::Ports => Why::Number,
             Wanted::Bytes { .. } => Why::Hex,
         }

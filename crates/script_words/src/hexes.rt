@@ -1,5 +1,5 @@
 // Bytes as hexadecimal words.
-ghost use Rattle.std.specs.Prelude.{◌≡◌, ◌≤◌, ◌<◌, ◌+◌, length, take, drop, slice_index, is_some, IfSome, IfOk};
+ghost use Rattle.std.specs.Prelude.{◌≡◌, ◌≤◌, ◌<◌, ◌+◌, [], length, take, drop, slice_index, is_some, IfSome, IfOk};
 ghost use Rattle.std.specs.List.{list_all};
 ghost use Rattle.std.specs.Char.{is_ascii_hexdigit};
 ghost use Rattle.std.specs.Result.{result_ok};
@@ -30,6 +30,13 @@ impl<'a> Model for HexBytes<'a> {
 }
 
 impl<'a> HexBytes<'a> {
+    /// No bytes, where no word spells any.
+    pub fn none() -> HexBytes<'a>
+        ensures { result ≡ [] }
+    {
+        HexBytes { digits: b"" }
+    }
+
     /// The bytes that a word spells, two hexadecimal digits of either case each; None exactly where it spells none, or
     /// more than `limit`.
     pub fn of(word: &'a [u8], limit: usize) -> Option<HexBytes<'a>>

@@ -11,7 +11,7 @@ pub use fault::{Fault, Wanted};
 pub use hexes::HexBytes;
 pub use line::{check_line, is_unprintable};
 pub use numbers::{count_to, number, number_to};
-pub use words::{is_word, next_word, no_words, one_word, three_words, two_or, two_words};
+pub use words::{is_word, next_word, no_words, none_or, one_word, three_words, two_or, two_words};
 
 #[cfg(test)]
 mod tests;

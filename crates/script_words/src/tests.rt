@@ -20,6 +20,7 @@ fn bytes_are_decoded_where_they_stand(rt: HostRuntime) -> Result<(), Fail> {
     bytes.decode(1, &mut part);
     assert_eq!(rt; part, [0xFF, 0xA7]);
     assert_eq!(rt; bytes.byte(1), 0xFF);
+    assert_eq!(rt; HexBytes::none().len(), 0);
     for word in [b"".as_slice(), b"0", b"00fFA", b"0g", b"0x00", b"00fFA700"] {
         assert!(rt; HexBytes::of(word, 3).is_none());
     }

@@ -30,7 +30,7 @@ pub fn is_word(word: &[u8], name: &[u8]) -> bool
 pub fn no_words(line: &[u8]) -> Result<(), Fault>
     ensures { by_kind result ≡ no_words (words_of line.now) }
 {
-    end_of(line, words_wanted(0))
+    none_or(line, words_wanted(0))
 }
 
 /// The one word; a fault exactly where there is not one.
@@ -40,7 +40,7 @@ pub fn one_word(line: &[u8]) -> Result<&[u8], Fault>
 {
     let wanted = words_wanted(1);
     let (word, after) = next_word(line).ok_or(wanted)?;
-    end_of(after, wanted)?;
+    none_or(after, wanted)?;
     Ok(word)
 }
 
@@ -78,12 +78,12 @@ pub fn two_or(line: &[u8], wanted: Fault) -> Result<(&[u8], &[u8]), Fault>
 {
     let (first, rest) = next_word(line).ok_or(wanted)?;
     let (second, rest) = next_word(rest).ok_or(wanted)?;
-    end_of(rest, wanted)?;
+    none_or(rest, wanted)?;
     Ok((first, second))
 }
 
-// Nothing but spaces, or else this fault.
-fn end_of(line: &[u8], wanted: Fault) -> Result<(), Fault>
+/// Nothing but spaces, or else this fault, which is one of how many words there are.
+pub fn none_or(line: &[u8], wanted: Fault) -> Result<(), Fault>
     requires { kind_of wanted.wanted ≡ Count }
     ensures { by_kind result ≡ no_words (words_of line.now) }
 {

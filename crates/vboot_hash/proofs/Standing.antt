@@ -1,5 +1,5 @@
 -- What a hash stands for, behind an operation elsewhere and behind a tick.
-use Rattle.std.proofs.Common.{◌≡◌, refl, sym, ap, ◌∙◌, subst, ℕ, zero, suc, ◌+◌, ◌-◌, ◌*◌, ◌≤◌, ◌⊎◌, inl, inr, Bool, true, false, nat_le, min, List, [], ◌∷◌, ◌++◌, length, take, drop, slice_range, arith, append_assoc, Option, Some, None}
+use Rattle.std.proofs.Common.{◌≡◌, refl, sym, ap, ◌∙◌, subst, ℕ, zero, suc, ◌+◌, ◌-◌, ◌≤◌, ◌⊎◌, inl, inr, Bool, true, false, nat_le, min, List, [], ◌∷◌, ◌++◌, take, drop, slice_range, arith, append_assoc, Option, Some, None}
 use Rattle.std.proofs.lemmas.Bool.Decides.{leb_tells, nat_tests}
 use Rattle.std.proofs.lemmas.List.{drop-drop}
 use Rattle.std.specs.Prelude.{IfSome}
@@ -12,7 +12,7 @@ use Rattle.ec_model.specs.Hash.{is_hash_over}
 use Rattle.ec_model.specs.Ranges.{Range, overlaps, part}
 use Rattle.ec_model.specs.Table.{ticks_of}
 use Rattle.ec_model.proofs.StoredLemmas.{take-drop-take}
-use Rattle.vboot_hash.specs.Hashing.{HashState, IsHashing, covered, next_bytes, StandsBy, Stands, IsTicked, IsTickedFrom}
+use Rattle.vboot_hash.specs.Hashing.{HashState, IsHashing, covered, StandsBy, Stands, IsTicked, IsTickedFrom}
 
 -- ranges that do not overlap: one ends where the other begins, or before
 beside : (first second : Range) → overlaps first second ≡ false → (second.at + second.size ≤ first.at) ⊎ (first.at + first.size ≤ second.at)

@@ -7,7 +7,7 @@ use Rattle.ec_model.specs.declared.live.HashView.{HashView}
 use Rattle.ec_model.specs.declared.live.HashView.TheVariants.{Idle, Busy, Done}
 use Rattle.flash_dev.specs.Counts.{HasFaults, raised_by, refused_after}
 use Rattle.flash_dev.specs.View.{DeviceView}
-use Rattle.ec_model.specs.Ranges.{Range, part}
+use Rattle.ec_model.specs.Ranges.{part}
 use Rattle.ec_model.specs.Table.{ticks_of}
 
 -- a hash: what is shown of it, the nonce of a busy one, and the running digest

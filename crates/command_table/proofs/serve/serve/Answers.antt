@@ -1,16 +1,60 @@
-use Rattle.std.proofs.Common.{◌∙◌, sym, ap}
-use Rattle.std.specs.Prelude.{is_some}
+use Rattle.std.proofs.Common.{rules, refl}
 use Rattle.ec_packet.specs.Read.{request_view}
-use Rattle.ec_model.specs.declared.live.Live.{Live}
 use Rattle.ec_model.specs.Handle.{admitted}
-use Rattle.command_table.proofs.ProtectLemmas.{passed-protect, found-told}
+use Rattle.ec_model.specs.Bodies.{flash_write_ask, flash_erase_ask}
+use Rattle.ec_boot.specs.States.{RunView}
+use Rattle.command_table.specs.declared.asks.Ask.TheVariants.{FlashWrite, FlashErase, FlashProtect, Reboot}
+use Rattle.command_table.proofs.ServeLemmas.{finds-ask, write-not, erase-not, restarts-not, leaves-as, served-as}
 use Rattle.command_table.proofs.serve.serve.Goals as goal
 
-pub returns-in-Ok-FlashProtect-clause-leaves : goal.returns-in-Ok-FlashProtect-clause-leaves
-returns-in-Ok-FlashProtect-clause-leaves g c =
-    let is = c.in-Ok-FlashProtect in
+pub returns-in-Ok-FlashWrite : goal.returns-in-Ok-FlashWrite
+returns-in-Ok-FlashWrite g c =
+    let is = c.in-Ok-FlashWrite in
+    let old : RunView = g.R.Running.run c.args.state.now in
     let request = request_view c.args.request.now in
-    found-told c.args.limit request is.ask.mask is.ask.flags c.flash_protect.new.reply.hurt c.flash_protect.new.reply.status c.flash_protect.new.reply.body (g.R.Running.run c.args.state.now) (g.R.Running.run c.flash_protect.new.state)
-    (λ core live_is. passed-protect request (admitted core request) is.field-0 is.ask is.field-0-is
-    (is.ensures.admitted core (ap (λ (live : Live). is_some live.erase) (live_is ∙ sym c.live.ensures.live) ∙ sym c.is_some-erasing.ensures)))
-    c.flash_protect.ensures.leaves
+    let same = finds-ask request old c.live.result c.is_some-erasing.result is.field-0 (FlashWrite is.ask) c.live.ensures.live c.is_some-erasing.ensures is.field-0-is is.ensures.admitted in
+    record {
+      stays = restarts-not c.args.limit (λ core. admitted core request) _ old same (λ core. write-not core request.version (flash_write_ask is.ask.offset is.ask.bytes.now));
+      leaves = search rules;
+      pin = search rules;
+      spent = search rules;
+      short = search rules;
+    }
+
+pub returns-in-Ok-FlashErase : goal.returns-in-Ok-FlashErase
+returns-in-Ok-FlashErase g c =
+    let is = c.in-Ok-FlashErase in
+    let old : RunView = g.R.Running.run c.args.state.now in
+    let request = request_view c.args.request.now in
+    let same = finds-ask request old c.live.result c.is_some-erasing.result is.field-0 (FlashErase is.ask) c.live.ensures.live c.is_some-erasing.ensures is.field-0-is is.ensures.admitted in
+    record {
+      stays = restarts-not c.args.limit (λ core. admitted core request) _ old same (λ core. erase-not core (flash_erase_ask is.ask.offset is.ask.size));
+      leaves = search rules;
+      pin = search rules;
+      spent = search rules;
+      short = search rules;
+    }
+
+pub returns-in-Ok-FlashProtect : goal.returns-in-Ok-FlashProtect
+returns-in-Ok-FlashProtect g c =
+    let is = c.in-Ok-FlashProtect in
+    let old : RunView = g.R.Running.run c.args.state.now in
+    let new : RunView = g.R.Running.run c.flash_protect.new.state in
+    let request = request_view c.args.request.now in
+    let same = finds-ask request old c.live.result c.is_some-erasing.result is.field-0 (FlashProtect is.ask) c.live.ensures.live c.is_some-erasing.ensures is.field-0-is is.ensures.admitted in
+    record {
+      stays = restarts-not c.args.limit (λ core. admitted core request) _ old same (λ core. refl);
+      leaves = leaves-as c.args.limit (λ core. admitted core request) _ c.flash_protect.new.reply.hurt c.flash_protect.new.reply.status c.flash_protect.new.reply.body old new same c.flash_protect.ensures.leaves;
+      pin = search rules;
+      spent = search rules;
+      short = search rules;
+    }
+
+pub returns-in-Ok-Reboot : goal.returns-in-Ok-Reboot
+returns-in-Ok-Reboot g c =
+    let is = c.in-Ok-Reboot in
+    let old : RunView = g.R.Running.run c.args.state.now in
+    let request = request_view c.args.request.now in
+    let same = finds-ask request old c.live.result c.is_some-erasing.result is.field-0 (Reboot is.ask) c.live.ensures.live c.is_some-erasing.ensures is.field-0-is is.ensures.admitted in
+    served-as c.reboot.result c.args.limit (λ core. admitted core request) _ c.reboot.new.reply.hurt c.reboot.new.reply.status c.reboot.new.reply.body old (g.R.Running.run c.reboot.new.state) same
+    (c.reboot.ensures c.args.limit request.version (search rules))

@@ -6,4 +6,4 @@ pub returns-clause-text : goal.returns-clause-text
 returns-clause-text c =
     c.protection.ensures.text
     ∙ ap (λ (text : List ℕ). c.args.out.now ++ text)
-    (sym (protection-read c.args.reply.now c.in-Some.say.flags c.in-Some.say.valid c.in-Some.say.writable (omega arith) (omega arith) (omega arith) c.in-Some.ensures.spelled))
+    (sym (protection-read c.args.reply.now c.from_bytes.result.flags c.from_bytes.result.valid c.from_bytes.result.writable (omega arith) (omega arith) (omega arith) c.from_bytes.ensures.spelled))

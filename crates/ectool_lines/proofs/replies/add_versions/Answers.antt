@@ -5,4 +5,4 @@ use Rattle.ectool_lines.proofs.replies.add_versions.Goals as goal
 
 pub returns-clause-text : goal.returns-clause-text
 returns-clause-text c =
-    c.append_mask.ensures.text ∙ ap (λ (mask : ℕ). c.args.out.now ++ (codes "versions " ++ hex_text mask)) (sym (mask-read c.args.reply.now c.in-Some.say.mask (omega arith) c.in-Some.ensures.spelled))
+    c.append_mask.ensures.text ∙ ap (λ (mask : ℕ). c.args.out.now ++ (codes "versions " ++ hex_text mask)) (sym (mask-read c.args.reply.now c.from_bytes-say.result.mask (omega arith) c.from_bytes-say.ensures.spelled))

@@ -1,4 +1,4 @@
-use Rattle.std.proofs.Common.{ℕ, ◌+◌, ◌-◌, ◌*◌, refl, arith, ap, ◌∙◌, rules}
+use Rattle.std.proofs.Common.{ℕ, ◌-◌, ◌*◌, refl, ap, rules}
 use Rattle.vboot_hash.specs.Hashing.{HashState}
 use Rattle.vboot_hash.proofs.Standing.{tick-stands}
 use Rattle.vboot_hash.proofs.hash.Hash.tick.Goals as goal

@@ -1,0 +1,10 @@
+use Rattle.std.proofs.Common.{refl, true}
+use Rattle.ec_boot.specs.Shared.{run_by}
+use Rattle.ec_boot.proofs.KeepLemmas.{guard-kept}
+use Rattle.ec_boot.proofs.on.OnRunning.disable_jump.Goals as goal
+
+pub returns-clause-guard : goal.returns-clause-guard
+returns-clause-guard g c =
+    rw (← c.self.view_is)
+    (guard-kept (run_by c.self.inside.ctl c.self.inside.pin c.self.inside.lasting c.self.inside.hash)
+    (run_by c.self.inside.ctl c.self.inside.pin (record c.self.inside.lasting { jump_off = true }) c.self.inside.hash) refl refl refl)
