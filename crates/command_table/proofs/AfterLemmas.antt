@@ -1,11 +1,13 @@
 -- What is on behind an answer.
-use Rattle.std.proofs.Common.{◌≡◌, sym, subst, ℕ, List}
+use Rattle.std.proofs.Common.{◌≡◌, refl, sym, ap, ◌∙◌, subst, ℕ, List, None}
 use Rattle.flash_dev.specs.Told.{Changes}
 use Rattle.flash_dev.specs.declared.hurt.Hurt.{Hurt}
 use Rattle.flash_dev.specs.declared.hurt.Hurt.TheVariants.{Cut}
 use Rattle.ec_boot.specs.States.{RunView, told_core}
 use Rattle.ec_boot.specs.Guarding.{KeepsGuard}
-use Rattle.command_table.specs.Serving.{Finds, IsDealtWith}
+use Rattle.command_table.specs.Serving.{Finds, IsDealtWith, AwaitsJump, IsServed}
+use Rattle.command_table.specs.declared.reboot.Next.{Next}
+use Rattle.command_table.specs.declared.reboot.Next.TheVariants.{Stays, Jumps, Restarts}
 use Rattle.command_table.specs.After.{StaysOn, IsAnswered, KeepsGuarded, IsOnAs}
 use Rattle.command_table.specs.declared.table.After.{After}
 use Rattle.command_table.specs.declared.table.After.TheVariants.{Ro, Rw, Reset, Off}
@@ -27,3 +29,16 @@ on-guarded old run (Ro new) same guard = subst (λ (on : RunView). Changes Keeps
 on-guarded old run (Rw new) same guard = subst (λ (on : RunView). Changes KeepsGuard (told_core old) (told_core on)) (sym same) guard
 on-guarded old run (Reset new) same guard = absurd same
 on-guarded old run (Off off) same guard = absurd same
+
+-- a jump that is left to do finds no erase pending
+pub served-idle : (next : Next) (limit : ℕ) (finds : Finds) (hurt : Hurt) (status : ℕ) (body : List ℕ) (old new : RunView) → IsServed next limit finds hurt status body old new → next ≡ Jumps → new.live.erase ≡ None
+served-idle Stays limit finds hurt status body old new served wrong = cc
+served-idle Jumps limit finds hurt status body old new served same = ap (λ (run : RunView). run.live.erase) served.same ∙ served.idle
+served-idle Restarts limit finds hurt status body old new served wrong = cc
+
+-- a jump that is left to do is one from the state that is there
+pub jump-made : (limit : ℕ) (finds : Finds) (hurt : Hurt) (status : ℕ) (body : List ℕ) (old run new : RunView) → AwaitsJump limit finds old run →
+    (AwaitsJump limit finds run run → StaysOn limit finds hurt status body run new) → StaysOn limit finds hurt status body old new
+jump-made limit finds hurt status body old run new awaits made =
+    subst (λ (from : RunView). (AwaitsJump limit finds from from → StaysOn limit finds hurt status body from new) → StaysOn limit finds hurt status body old new) (sym awaits.same)
+    (λ stays. stays (record { same = refl; idle = awaits.idle; jump = awaits.jump })) made

@@ -1,5 +1,5 @@
 -- What an answer keeps of guarded RO.
-use Rattle.std.proofs.Common.{◌≡◌, refl, subst, ℕ, true, List, length, inl, inr, Option, Some, None, Ok}
+use Rattle.std.proofs.Common.{◌≡◌, refl, ap, ◌∙◌, subst, ℕ, true, List, length, inl, inr, Option, Some, None, Ok}
 use Rattle.std.specs.Prelude.{option_map, IfSome, ◌⊎◌, IsTrue}
 use Rattle.flash_dev.specs.Told.{Changes}
 use Rattle.flash_dev.specs.declared.hurt.Hurt.{Hurt}
@@ -17,8 +17,11 @@ use Rattle.ec_boot.specs.States.{RunView, OffView, core_at, told_core, Follows}
 use Rattle.flash_dev.specs.View.{DeviceView}
 use Rattle.ec_boot.specs.Ran.{IsStopped, ReadFailed}
 use Rattle.ec_boot.specs.Guarding.{KeepsGuard, LowersGuard}
-use Rattle.ec_boot.proofs.KeepLemmas.{stopped-keeps, guard-told}
+use Rattle.ec_boot.proofs.KeepLemmas.{stopped-keeps, guard-told, guard-same}
 use Rattle.command_table.specs.Leaves.{FoundLeaves, HasReply}
+use Rattle.command_table.specs.Serving.{Finds, IsServed}
+use Rattle.command_table.specs.declared.reboot.Next.{Next}
+use Rattle.command_table.specs.declared.reboot.Next.TheVariants.{Stays, Jumps, Restarts}
 
 -- what is admitted is spelled
 spelled-of : (core : Core) (request : RequestView) (found : Admitted) → admitted core request ≡ Ok found → is_spelled found.command found.version found.body ≡ true
@@ -57,3 +60,29 @@ lost-guard old new off pin same told = rw same (by old.device.held new.device.he
         guarded = λ guarded kind. let is = told.guarded guarded (fresh_bus kind) in record { pin = (guarded (fresh_bus kind)).pin; stored = is.stored; locked = refl };
         bytes = told.bytes;
       }
+
+-- the guard is kept by one change, and by the next
+pub guard-then : (a b c : Option Core) → Changes KeepsGuard a b → Changes KeepsGuard b c → Changes KeepsGuard a c
+guard-then None None None first next = tt
+guard-then None None (Some z) first next = next
+guard-then None (Some y) c first next = absurd first
+guard-then (Some x) None c first next = absurd first
+guard-then (Some x) (Some y) None first next = absurd next
+guard-then (Some x) (Some y) (Some z) first next =
+    record {
+      guarded = λ guarded. next.guarded (first.guarded guarded);
+      bytes = λ guarded. next.bytes (first.guarded guarded) ∙ first.bytes guarded;
+    }
+
+-- a request that was served leaves the pin
+pub served-pin : (next : Next) (limit : ℕ) (finds : Finds) (hurt : Hurt) (status : ℕ) (body : List ℕ) (old new : RunView) → IsServed next limit finds hurt status body old new → new.pin ≡ old.pin
+served-pin Stays limit finds hurt status body old new served = served.pin
+served-pin Jumps limit finds hurt status body old new served = ap (λ (run : RunView). run.pin) served.same
+served-pin Restarts limit finds hurt status body old new served = ap (λ (run : RunView). run.pin) served.same
+
+-- a request that was served keeps the guard
+pub served-guard : (size : ℕ) (next : Next) (limit : ℕ) (request : RequestView) (hurt : Hurt) (status : ℕ) (body : List ℕ) (old new : RunView) → is_flash_size size ≡ true → IfSome old.device.held (λ flash. length flash ≡ size) →
+    IsServed next limit (λ core. admitted core request) hurt status body old new → Changes KeepsGuard (told_core old) (told_core new)
+served-guard size Stays limit request hurt status body old new allowed sized served = answer-guard size hurt limit request status body old new allowed sized served.leaves
+served-guard size Jumps limit request hurt status body old new allowed sized served = guard-same old new (ap told_core served.same)
+served-guard size Restarts limit request hurt status body old new allowed sized served = guard-same old new (ap told_core served.same)

@@ -10,7 +10,8 @@ ghost use Rattle.ec_packet.specs.Read.{request_view};
 ghost use Rattle.ec_boot.specs.Either.{run_of};
 ghost use Rattle.ec_boot.specs.Guarding.{KeepsGuard};
 ghost use Rattle.ec_boot.specs.States.{told_core};
-ghost use Rattle.command_table.specs.Serving.{Finds, AwaitsJump};
+ghost use Rattle.command_table.specs.Serving.{Finds, AwaitsJump, IsServed};
+ghost use Rattle.ec_boot.specs.States.{RunView};
 ghost use Rattle.command_table.specs.After.{
   StaysOn,
   IsAnswered,
@@ -23,7 +24,7 @@ ghost use Rattle.command_table.specs.After.{
 
 use crate::Reply;
 use crate::reboot::Next;
-use crate::serve::serve;
+use crate::requests::serve;
 use ec_boot::{Awake, InRo, InRw, JumpNo, Off, Running};
 use ec_model::Hurt;
 use ec_packet::Request;
@@ -124,6 +125,25 @@ fn restart<F: FlashDev>(state: Awake<F>, reply: &mut Reply) -> InRo<F>
     on
 }
 
+/// Ends what `serve` began: makes the jump or the restart that is left to do. Where power was lost, only the flash is left.
+pub fn finish<F: FlashDev>(state: Awake<F>, next: Next, reply: &mut Reply) -> After<F>
+    requires { next ≡ Next.Jumps → (run_of state).live.erase ≡ None }
+    ensures row { (limit : ℕ) (finds : Finds) (old : RunView) → 8 ≤ limit →
+        IsServed next limit finds reply.old.hurt reply.old.status reply.old.body old (run_of state) →
+        IsAnswered limit finds reply.new.hurt reply.new.status reply.new.body old result }
+    ensures guard { (old : RunView) → (run_of state).pin ≡ old.pin → Changes KeepsGuard (told_core old) (told_core (run_of state)) →
+        KeepsGuarded old result }
+{
+    match next {
+        Next::Stays => match reply.hurt {
+            Hurt::Cut => After::Off(state.cut()),
+            _ => After::of(state),
+        },
+        Next::Jumps => After::of(jump(state, reply)),
+        Next::Restarts => After::Reset(restart(state, reply)),
+    }
+}
+
 /// Answers a request that came on a bus. `reply` becomes the reply; where the controller lost its power, or was restarted,
 /// it is not to be sent. A command that is unknown answers 1, a version that is not offered 6, any but
 /// GET_COMMS_STATUS and RESEND_RESPONSE while an erase is pending 16, a body that is no spelling 3, and else the command's row
@@ -139,12 +159,6 @@ pub fn answer<F: FlashDev>(
 {
     // The guarded bytes are the lower half of the flash.
     let _size = state.geometry();
-    match serve(&mut state, request, limit_of(bus), reply) {
-        Next::Stays => match reply.hurt {
-            Hurt::Cut => After::Off(state.cut()),
-            _ => After::of(state),
-        },
-        Next::Jumps => After::of(jump(state, reply)),
-        Next::Restarts => After::Reset(restart(state, reply)),
-    }
+    let next = serve(&mut state, request, limit_of(bus), reply);
+    finish(state, next, reply)
 }

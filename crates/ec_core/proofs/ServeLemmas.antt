@@ -23,14 +23,14 @@ use Rattle.ec_wire.specs.Dues.{waiting_request}
 use Rattle.ec_boot.specs.declared.awake.Awake.{Awake}
 use Rattle.ec_boot.specs.Either.{run_of}
 use Rattle.ec_boot.specs.States.{RunView, OffView, core_at, told_core, Follows}
-use Rattle.command_table.specs.declared.table.After.{After}
 use Rattle.flash_dev.specs.View.{DeviceView}
 use Rattle.flash_dev.proofs.Accounting.{account-same}
 use Rattle.ec_model.specs.Operations.{Operation}
 use Rattle.ec_boot.specs.Ran.{IsStopped, AllBegun, ReadFailed}
 use Rattle.command_table.specs.Leaves.{FoundLeaves, HasReply}
-use Rattle.command_table.specs.declared.table.After.TheVariants.{Ro, Rw, Reset, Off}
-use Rattle.command_table.specs.After.{IsAnswered, IsLostIn, IsOnAs, StaysOn, RestartsAs, GoesOff, boot_hurt}
+use Rattle.command_table.specs.After.{IsLostIn, StaysOn, RestartsAs, GoesOff, boot_hurt}
+use Rattle.command_table.specs.Serving.{IsServed, IsDealtWith}
+use Rattle.command_table.specs.declared.reboot.Next.{Next}
 use Rattle.ec_boot.specs.declared.awake.Awake.TheVariants.{Ro as AwakeRo}
 use Rattle.flash_protect.specs.Setting.{IsLookedAt}
 use Rattle.flash_dev.specs.Costs.{Account}
@@ -54,11 +54,11 @@ read-err : (read : Result RequestView ℕ) (status : Status) → IsReadAs read (
 read-err (Ok view) status wrong = absurd wrong
 read-err (Err number) status same = ap (λ (n : ℕ). let r : Result RequestView ℕ = Err n in r) (sym same)
 
--- the answer to a packet is that to its request
-pub packet-answered : {F : Type 0} (limit : ℕ) (bytes : List ℕ) (request : Request) (hurt : Hurt) (status : ℕ) (body : List ℕ) (on : RunView) (after : After F) → IsReadAs (framing bytes) (Ok request) →
-    IsAnswered limit (λ core. admitted core (request_view request)) hurt status body on after → IsAnswered limit (λ core. asked core bytes) hurt status body on after
-packet-answered {F} limit bytes request hurt status body on after read answered =
-    subst (λ (r : Result RequestView ℕ). IsAnswered {F = F} limit (λ core. admitted_from core r) hurt status body on after) (sym (read-ok (framing bytes) request read)) answered
+-- what is done for a packet is what is done for its request
+pub packet-served : (next : Next) (limit : ℕ) (bytes : List ℕ) (request : Request) (hurt : Hurt) (status : ℕ) (body : List ℕ) (old new : RunView) → IsReadAs (framing bytes) (Ok request) →
+    IsServed next limit (λ core. admitted core (request_view request)) hurt status body old new → IsServed next limit (λ core. asked core bytes) hurt status body old new
+packet-served next limit bytes request hurt status body old new read served =
+    subst (λ (r : Result RequestView ℕ). IsServed next limit (λ core. admitted_from core r) hurt status body old new) (sym (read-ok (framing bytes) request read)) served
 
 -- the most bytes of a packet
 pub record IsLimit (limit : ℕ) : Type 0 where
@@ -70,15 +70,14 @@ limits Lpc = record { least = omega arith; most = omega arith }
 limits I2c = record { least = omega arith; most = omega arith }
 limits Spi = record { least = omega arith; most = omega arith }
 
--- the answer to a packet that is no request
+-- what is done for a packet that is no request
 pub packet-refused : (kind : BusKind) (bytes : List ℕ) (error : Status) (hurt : Hurt) (status : ℕ) (body : List ℕ) (on : RunView) → IsReadAs (framing bytes) (Err error) → hurt ≡ Whole → status ≡ error.0 → body ≡ [] →
-    StaysOn (packet_limit kind) (λ core. asked core bytes) hurt status body on on
+    IsDealtWith (packet_limit kind) (λ core. asked core bytes) hurt status body on on
 packet-refused kind bytes error hurt status body on read whole status_is body_is =
-    subst (λ (h : Hurt). StaysOn (packet_limit kind) (λ core. asked core bytes) h status body on on) (sym whole)
-    (subst (λ (n : ℕ). StaysOn (packet_limit kind) (λ core. asked core bytes) Whole n body on on) (sym status_is)
-    (subst (λ (b : List ℕ). StaysOn (packet_limit kind) (λ core. asked core bytes) Whole error.0 b on on) (sym body_is)
+    subst (λ (h : Hurt). IsDealtWith (packet_limit kind) (λ core. asked core bytes) h status body on on) (sym whole)
+    (subst (λ (n : ℕ). IsDealtWith (packet_limit kind) (λ core. asked core bytes) Whole n body on on) (sym status_is)
+    (subst (λ (b : List ℕ). IsDealtWith (packet_limit kind) (λ core. asked core bytes) Whole error.0 b on on) (sym body_is)
     (record {
-      alive = λ cut. cc;
       stays = λ core same. ap (λ (r : Result RequestView ℕ). is_restart (row_of core (packet_limit kind) (admitted_from core r))) (read-err (framing bytes) error read);
       leaves = leaves on.device.held;
       pin = refl;
@@ -228,14 +227,6 @@ served-down {F} kind event answer old_bus bus up off pin hurt bytes kind_is aske
     (event-told Cut event old_bus bus answer (lost_answer event) off.device (run_of up) (Serve bytes) (down_table kind (run_of up).pin off) taken.state taken.answer_is work_is
     (lost-told (run_of up) off bus kind answer (lost_answer event) bytes kind_is goes_off.leaves))
     refl refl tt (spent-in Cut 1024 (run_of up).device off.device (omega arith) goes_off.spent))
-
--- a packet that is no request, answered by whichever image runs
-pub refused-packet : {F : Type 0} (kind : BusKind) (bytes : List ℕ) (error : Status) (hurt : Hurt) (status : ℕ) (body : List ℕ) (on : RunView) (after : After F) → IsReadAs (framing bytes) (Err error) → hurt ≡ Whole → status ≡ error.0 → body ≡ [] → IsOnAs on after →
-    IsAnswered (packet_limit kind) (λ core. asked core bytes) hurt status body on after
-refused-packet kind bytes error hurt status body on (Ro new) read whole status_is body_is same = rw same (packet-refused kind bytes error hurt status body on read whole status_is body_is)
-refused-packet kind bytes error hurt status body on (Rw new) read whole status_is body_is same = rw same (packet-refused kind bytes error hurt status body on read whole status_is body_is)
-refused-packet kind bytes error hurt status body on (Reset new) read whole status_is body_is same = absurd same
-refused-packet kind bytes error hurt status body on (Off off) read whole status_is body_is same = absurd same
 
 -- a row that restarts the controller has no operations
 unless-restarts : (refusal : Option ℕ) (core after : Core) → unless_refused refusal core (done after) ≡ Restarts → ⊥

@@ -12,6 +12,8 @@ use Rattle.ec_wire.specs.Dues.{waiting_request}
 use Rattle.ec_boot.specs.Either.{run_of}
 use Rattle.ec_boot.specs.States.{RunView}
 use Rattle.ec_core.specs.Held.{awake_of, kept_table, kept_device, kept_pin, is_kept_up, IsKept, IsSpent, IsSilent, EventTold, answer_behind, on_behind}
+use Rattle.command_table.specs.Serving.{Finds, IsServed}
+use Rattle.command_table.specs.declared.reboot.Next.{Next}
 use Rattle.ec_core.specs.declared.held.Held.{Held}
 use Rattle.ec_core.specs.declared.held.Held.TheVariants.{Down, Up}
 use Rattle.ec_core.specs.declared.task.Task.{Task}
@@ -100,3 +102,8 @@ abbrev pub IsCarried : {F : Type 0} → BusKind → Task → Hurt → Bool → B
 IsCarried kind task hurt restarted bus new_bus old new =
     (event : Event) (old_bus : BusState) (answer : ℕ) → IsTaken event old_bus (Some task) bus answer old →
     IsStepped kind event hurt (answer_behind restarted hurt answer (lost_answer event)) old_bus new_bus old new
+
+-- a request was served on what a controller holds, which is on: what was done for it, by what is left to do
+abbrev pub IsKeptServed : {F : Type 0} → Next → ℕ → Finds → Hurt → ℕ → List ℕ → Option (Held F) → Option (Held F) → Type 0
+IsKeptServed next limit finds hurt status body (Some (Up old)) (Some (Up new)) = IsServed next limit finds hurt status body (run_of old) (run_of new)
+IsKeptServed next limit finds hurt status body old new = ⊥

@@ -1,8 +1,9 @@
 // What a task makes of what the controller holds.
-ghost use Rattle.std.specs.Prelude.{◌≡◌, Some, IsSome, true, false};
+ghost use Rattle.std.specs.Prelude.{◌≡◌, ◌≢◌, Some, IsSome, IsNone, true, false};
 ghost use Rattle.ec_model.specs.Bus.{fresh_bus};
 ghost use Rattle.ec_core.specs.declared.held.Held.TheVariants.{Up, Down};
 ghost use Rattle.ec_boot.specs.declared.awake.Awake.TheVariants.{Ro};
+ghost use Rattle.ec_core.specs.declared.task.Task.TheVariants.{Serve};
 ghost use Rattle.command_table.specs.After.{boot_hurt};
 ghost use Rattle.ec_core.specs.Held.{is_up, is_kept_up};
 ghost use Rattle.ec_core.specs.Task.{IsCarried, CanCarry};
@@ -50,13 +51,12 @@ fn booted<B: Bus + Drop, F: FlashDev>(on: InRo<F>, bus: &mut B) -> Carried<F>
     }
 }
 
-// A task of a controller that is on.
+// A task of a controller that is on, but to serve.
 fn carry_up<B: Bus + Drop, F: FlashDev>(mut on: Awake<F>, bus: &mut B, task: Task) -> Carried<F>
-    requires { CanCarry task (B.state bus.old) true }
+    requires { task ≢ Serve }
     ensures { IsCarried B.bus task result.hurt result.restarted (B.state bus.old) (B.state bus.new) (Some (Up on)) (Some result.held) }
 {
     match task {
-        Task::Serve => serve(on, bus),
         Task::Tick => tick(on, bus),
         Task::Boot { cause } => booted(on.reset(cause), bus),
         Task::Stop => {
@@ -75,6 +75,7 @@ fn carry_up<B: Bus + Drop, F: FlashDev>(mut on: Awake<F>, bus: &mut B, task: Tas
                 restarted: false,
             }
         }
+        Task::Serve => unreachable!(),
     }
 }
 
@@ -99,14 +100,33 @@ fn carry_down<B: Bus + Drop, F: FlashDev>(
     }
 }
 
-// A task.
+// A task but to serve.
 fn carry<B: Bus + Drop, F: FlashDev>(held: Held<F>, bus: &mut B, task: Task) -> Carried<F>
-    requires { CanCarry task (B.state bus.old) (is_up held) }
+    requires task { CanCarry task (B.state bus.old) (is_up held) }
+    requires other { task ≢ Serve }
     ensures { IsCarried B.bus task result.hurt result.restarted (B.state bus.old) (B.state bus.new) (Some held) (Some result.held) }
 {
     match held {
         Held::Up(on) => carry_up(on, bus, task),
         Held::Down { off, pin } => carry_down(off, pin, bus, task),
+    }
+}
+
+/// A controller holds this from now on. Gives how the task ended.
+pub fn put<F: FlashDev>(held: &mut Option<Held<F>>, carried: Carried<F>) -> End
+    requires { IsNone held.old }
+    ensures held { held.new ≡ Some carried.held }
+    ensures hurt { result.hurt ≡ carried.hurt }
+    ensures restarted { result.restarted ≡ carried.restarted }
+{
+    let Carried {
+        held: after,
+        hurt,
+        restarted,
+    } = carried;
+    match held.replace(after) {
+        None => End { hurt, restarted },
+        Some(_) => unreachable!(),
     }
 }
 
@@ -121,18 +141,11 @@ pub fn carry_out<B: Bus + Drop, F: FlashDev>(
     requires task { CanCarry task (B.state bus.old) (is_kept_up held.old) }
     ensures { IsCarried B.bus task result.hurt result.restarted (B.state bus.old) (B.state bus.new) held.old held.new }
 {
-    match held.take() {
-        Some(before) => {
-            let Carried {
-                held: after,
-                hurt,
-                restarted,
-            } = carry(before, bus, task);
-            match held.replace(after) {
-                None => End { hurt, restarted },
-                Some(_) => unreachable!(),
-            }
-        }
-        None => unreachable!(),
+    match task {
+        Task::Serve => serve(held, bus),
+        other => match held.take() {
+            Some(before) => put(held, carry(before, bus, other)),
+            None => unreachable!(),
+        },
     }
 }

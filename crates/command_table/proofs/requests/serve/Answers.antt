@@ -5,7 +5,7 @@ use Rattle.ec_model.specs.Bodies.{flash_write_ask, flash_erase_ask}
 use Rattle.ec_boot.specs.States.{RunView}
 use Rattle.command_table.specs.declared.asks.Ask.TheVariants.{FlashWrite, FlashErase, FlashProtect, Reboot}
 use Rattle.command_table.proofs.ServeLemmas.{finds-ask, write-not, erase-not, restarts-not, leaves-as, served-as}
-use Rattle.command_table.proofs.serve.serve.Goals as goal
+use Rattle.command_table.proofs.requests.serve.Goals as goal
 
 pub returns-in-Ok-FlashWrite : goal.returns-in-Ok-FlashWrite
 returns-in-Ok-FlashWrite g c =
