@@ -50,7 +50,7 @@ named-take count bytes many =
     rw (low, high) refl
 
 -- a response names its length whatever follows it
-named-front : (status : ℕ) (body rest : List ℕ) → response_length (response_packet status body ++ rest) ≡ response_length (response_packet status body)
+pub named-front : (status : ℕ) (body rest : List ℕ) → response_length (response_packet status body ++ rest) ≡ response_length (response_packet status body)
 named-front status body rest = refl
 
 -- the two parts of a test
@@ -59,14 +59,14 @@ and-parts true b both = (refl, both)
 and-parts false b both = (cc, cc)
 
 -- what was read where the host reads on behind the header
-whole_of : (on : Bool) (bytes : List ℕ) → on ≡ true → is_all_read on bytes ≡ true → length bytes ≡ 8 + response_length bytes
+pub whole_of : (on : Bool) (bytes : List ℕ) → on ≡ true → is_all_read on bytes ≡ true → length bytes ≡ 8 + response_length bytes
 whole_of true bytes on all = let parts = and-parts (nat_le 8 (length bytes)) (length bytes == 8 + response_length bytes) all in eq-of (length bytes) (8 + response_length bytes) parts.1 where
   eq-of : (a b : ℕ) → (a == b) ≡ true → a ≡ b
   eq-of a b same = grind (arith, eqb_tells)
 whole_of false bytes on all = cc
 
 -- at least a header was read
-many_of : (on : Bool) (bytes : List ℕ) → is_all_read on bytes ≡ true → 8 ≤ length bytes
+pub many_of : (on : Bool) (bytes : List ℕ) → is_all_read on bytes ≡ true → 8 ≤ length bytes
 many_of on bytes all = let parts = and-parts (nat_le 8 (length bytes)) (length bytes == (if on then 8 + response_length bytes else 8)) all in le-of (length bytes) parts.0 where
   le-of : (a : ℕ) → nat_le 8 a ≡ true → 8 ≤ a
   le-of a same = grind (arith, leb_tells)

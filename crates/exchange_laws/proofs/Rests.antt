@@ -65,7 +65,7 @@ served-rests Failed core bus lost request after (inr unfinished) = rests-as afte
 served-rests Cut core bus lost request after cut = rests-as after _ cut.leaves refl
 
 -- other work, whatever failed in it, from a bus on which no request waits
-kept-rests : (hurt : Hurt) (core : Core) (bus : BusAnswer) (lost : ℕ) (work : Work) (after : After) → rests bus.state → WorkLeaves hurt core bus lost work after → Rests after.table
+pub kept-rests : (hurt : Hurt) (core : Core) (bus : BusAnswer) (lost : ℕ) (work : Work) (after : After) → rests bus.state → WorkLeaves hurt core bus lost work after → Rests after.table
 kept-rests hurt core bus lost (Serve request) after at leaves = served-rests hurt core bus lost request after leaves
 kept-rests Cut core bus lost work after at cut = rests-as after _ cut.leaves refl
 kept-rests Whole core bus lost Rest after at leaves = rests-as after _ leaves at
@@ -93,7 +93,7 @@ tick-work hurt core bus lost (Some request) other after same leaves = served-res
 tick-work hurt core bus lost None other after same leaves = kept-rests hurt core bus lost other after (ap (λ (due : Option (List ℕ)). is_some due) same) leaves
 
 -- an event of a controller that is off
-off-rests : (hurt : Hurt) (table : Table) (event : Event) (after : After) → table.power ≡ Off → OffLeaves hurt table event after → Rests after.table
+pub off-rests : (hurt : Hurt) (table : Table) (event : Event) (after : After) → table.power ≡ Off → OffLeaves hurt table event after → Rests after.table
 off-rests Cut table event after off leaves = absurd leaves
 off-rests Whole table (AccessEvent access) after off leaves = rests-as after _ leaves (ap (λ (power : Power). is_waiting power) off)
 off-rests Whole table Tick after off leaves = rests-as after _ leaves (ap (λ (power : Power). is_waiting power) off)

@@ -23,7 +23,7 @@ use Rattle.exchange_laws.proofs.LpcSend.{as-table, bus-facts}
 use Rattle.exchange_laws.proofs.QuietEntries.{quiet-calm, quiet-are-calls, quiet-calls, quiet-run}
 
 -- a whole request waits
-received-whole : (bytes : List ℕ) → length bytes ≡ 8 + u16_at 6 bytes → u16_at 6 bytes ≤ 536 → spi_received bytes ≡ Waiting bytes
+pub received-whole : (bytes : List ℕ) → length bytes ≡ 8 + u16_at 6 bytes → u16_at 6 bytes ≤ 536 → spi_received bytes ≡ Waiting bytes
 received-whole bytes whole short =
     let long = enough (length bytes) 8 (omega (arith, whole)) in
     let fits = enough 536 (u16_at 6 bytes) short in
@@ -45,7 +45,7 @@ at-least : (n m : ℕ) → nat_lt n m ≡ false → m ≤ n
 at-least n m same = grind (arith)
 
 -- a part of a request is received on
-received-by : (test : Bool) (bytes more : List ℕ) → nat_lt (length bytes) 8 ≡ test → 1 ≤ length more → length (bytes ++ more) ≡ 8 + u16_at 6 (bytes ++ more) → u16_at 6 (bytes ++ more) ≤ 536 → spi_received bytes ≡ Receiving bytes
+pub received-by : (test : Bool) (bytes more : List ℕ) → nat_lt (length bytes) 8 ≡ test → 1 ≤ length more → length (bytes ++ more) ≡ 8 + u16_at 6 (bytes ++ more) → u16_at 6 (bytes ++ more) ≤ 536 → spi_received bytes ≡ Receiving bytes
 received-by true bytes more header some whole short = rw header refl
 received-by false bytes more header some whole short =
     let named = named-front bytes more (at-least (length bytes) 8 header) in
@@ -54,7 +54,7 @@ received-by false bytes more header some whole short =
     rw (header, fits, part) refl
 
 -- a byte behind the first one gets 0xF9
-behind-first : (size : ℕ) → 1 ≤ size → ◌≡◌ {A = ℕ} (if size == 0 then 0xF8 else 0xF9) 0xF9
+pub behind-first : (size : ℕ) → 1 ≤ size → ◌≡◌ {A = ℕ} (if size == 0 then 0xF8 else 0xF9) 0xF9
 behind-first size some = let differs = other size some in rw differs refl
   where
     other : (size : ℕ) → 1 ≤ size → (size == 0) ≡ false
@@ -102,7 +102,7 @@ request-goes core (byte ∷ bytes) calls new plain short lead =
     (refl, subst (λ (n : ℕ). CallsLead (table_of core (OnSpi (Receiving (byte ∷ [])))) (spi_writes bytes (replicate n 0xF9) ++ calls) new) size rest)
 
 -- four lists, grouped otherwise
-regroup : (a b c d : List HostCall) → a ++ (b ++ (c ++ d)) ≡ a ++ b ++ c ++ d
+pub regroup : (a b c d : List HostCall) → a ++ (b ++ (c ++ d)) ≡ a ++ b ++ c ++ d
 regroup a b c d = simp append_assoc
 
 -- the calls of a whole exchange
@@ -124,7 +124,7 @@ exchange-goes core after state packet result body plain short same =
 header : (size : ℕ) → nat_le 8 (8 + size) ≡ true
 header size = grind (arith, leb_tells)
 
-within : (size : ℕ) → size ≤ 536 → nat_le size 536 ≡ true
+pub within : (size : ℕ) → size ≤ 536 → nat_le size 536 ≡ true
 within size short = grind (arith, leb_tells)
 
 -- the host reads on behind the header of a response that fits
@@ -140,7 +140,7 @@ response-whole result body short =
     ap (λ (b : Bool). is_all_read b reply) (response-on result body short) ∙ ap (λ (b : Bool). b && (length reply == 8 + response_length reply)) many ∙ all
 
 -- and heard
-response-heard : (result : ℕ) (body : List ℕ) → length body ≤ 536 → Reply (response_packet result body) ≡ heard_if (reads_on 536 (response_packet result body)) (heard_packet (response_packet result body))
+pub response-heard : (result : ℕ) (body : List ℕ) → length body ≤ 536 → Reply (response_packet result body) ≡ heard_if (reads_on 536 (response_packet result body)) (heard_packet (response_packet result body))
 response-heard result body short =
     let reply = response_packet result body in
     sym (ap (λ (b : Bool). heard_if b (heard_packet reply)) (response-on result body short) ∙ ap (λ (b : Bool). if b then Reply reply else Bad) (response-is result body (omega (arith, short))))

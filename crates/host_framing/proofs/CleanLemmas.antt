@@ -54,7 +54,7 @@ added-calm : (added : List Entry) (old new : WireView) → Grows added old new �
 added-calm added old new grows calm = subst (λ (entries : List Entry). IsUndisturbed entries) (since-added added old new grows) calm
 
 -- the calls lead on, where nothing disturbed the entries
-lead-since : (added : List Entry) (old new : WireView) (told left : Table) → Grows added old new → IsRun told added left → IsUndisturbed (since old new) → CallsLead told (calls_of added) left
+pub lead-since : (added : List Entry) (old new : WireView) (told left : Table) → Grows added old new → IsRun told added left → IsUndisturbed (since old new) → CallsLead told (calls_of added) left
 lead-since added old new told left grows run calm = calm_lead told added left (added-calm added old new grows calm) run
 
 -- an undisturbed entry leaves the power
@@ -81,12 +81,12 @@ on-since : (added : List Entry) (old new : WireView) → Grows added old new →
 on-since added old new grows calm = grows.on ∙ calm-on added old.on (added-calm added old new grows calm)
 
 -- a table is on or off
-data OnOrOff (table : Table) : Type 0 where
+pub data OnOrOff (table : Table) : Type 0 where
   IsOff : table.power ≡ Off → OnOrOff table
   IsOn : (awake : Awake) → table.power ≡ On awake → OnOrOff table
 
 -- by its power
-on-or-off : (table : Table) (power : Power) → table.power ≡ power → OnOrOff table
+pub on-or-off : (table : Table) (power : Power) → table.power ≡ power → OnOrOff table
 on-or-off table Off same = IsOff same
 on-or-off table (On awake) same = IsOn awake same
 
@@ -103,7 +103,7 @@ abbrev SettlesOn : BusKind → List HostCall → Type 0
 SettlesOn bus calls = (told : Table) (awake : Awake) (left : Table) → Valid told → told.power ≡ On awake → told.kind ≡ bus → CallsLead told calls left → Settles (settled told) left
 
 -- a table that is off is none of a wire that is on
-off-on : (old : WireView) (told : Table) → told.power ≡ Off → Agrees old.bus old.on told → old.on ≡ false
+pub off-on : (old : WireView) (told : Table) → told.power ≡ Off → Agrees old.bus old.on told → old.on ≡ false
 off-on old told off agrees = sym agrees.on_is ∙ ap (λ (power : Power). is_on power) off
 
 -- an undisturbed send, by whether the controller is on
@@ -112,7 +112,7 @@ serves-by bus packet heard old told left calls law (IsOff off) kind agrees on le
 serves-by bus packet heard old told left calls law (IsOn awake is) kind agrees on lead = law told awake left agrees.valid is (agrees.kind_is ∙ kind) lead
 
 -- the same on a wire
-serves-calm : (bus : BusKind) (packet : List ℕ) (heard : Heard) (old new : WireView) → old.bus ≡ bus → (sends : Sends bus packet heard old new) → ServesOn bus packet heard (calls_of sends.added) → ServesWhereCalm packet heard old new
+pub serves-calm : (bus : BusKind) (packet : List ℕ) (heard : Heard) (old new : WireView) → old.bus ≡ bus → (sends : Sends bus packet heard old new) → ServesOn bus packet heard (calls_of sends.added) → ServesWhereCalm packet heard old new
 serves-calm bus packet heard old new kind sends law =
     changes-map _ _ old.table new.table (λ (told left : Table) (run : IsRun told sends.added left) (agrees : Agrees old.bus old.on told) (on : old.on ≡ true) (calm : IsUndisturbed (since old new)).
     serves-by bus packet heard old told left (calls_of sends.added) law (on-or-off told told.power refl) kind agrees on (lead-since sends.added old new told left sends.grows run calm)) sends.grows.run
@@ -130,7 +130,7 @@ caused-by bus packet heard old new told left calls law silence (IsOn awake is) k
     caused-on packet heard (settled told) left new.on (law told awake left agrees.valid is (agrees.kind_is ∙ kind) lead)
 
 -- the same on a wire
-caused-calm : (bus : BusKind) (packet : List ℕ) (heard : Heard) (old new : WireView) → old.bus ≡ bus → (sends : Sends bus packet heard old new) → ServesOn bus packet heard (calls_of sends.added) → SilentOff heard (calls_of sends.added) → CausedWhereCalm heard old new
+pub caused-calm : (bus : BusKind) (packet : List ℕ) (heard : Heard) (old new : WireView) → old.bus ≡ bus → (sends : Sends bus packet heard old new) → ServesOn bus packet heard (calls_of sends.added) → SilentOff heard (calls_of sends.added) → CausedWhereCalm heard old new
 caused-calm bus packet heard old new kind sends law silence =
     changes-map _ _ old.table new.table (λ (told left : Table) (run : IsRun told sends.added left) (agrees : Agrees old.bus old.on told) (calm : IsUndisturbed (since old new)).
     caused-by bus packet heard old new told left (calls_of sends.added) law silence (on-or-off told told.power refl) kind agrees (on-since sends.added old new sends.grows calm) (lead-since sends.added old new told left sends.grows run calm)) sends.grows.run
@@ -141,7 +141,7 @@ settles-by bus old told left calls law (IsOff off) kind agrees on lead = let dar
 settles-by bus old told left calls law (IsOn awake is) kind agrees on lead = law told awake left agrees.valid is (agrees.kind_is ∙ kind) lead
 
 -- the same on a wire
-settles-calm : (bus : BusKind) (old new : WireView) → old.bus ≡ bus → (quiets : Quiets bus old new) → SettlesOn bus (calls_of quiets.added) → SettlesWhereCalm old new
+pub settles-calm : (bus : BusKind) (old new : WireView) → old.bus ≡ bus → (quiets : Quiets bus old new) → SettlesOn bus (calls_of quiets.added) → SettlesWhereCalm old new
 settles-calm bus old new kind quiets law =
     changes-map _ _ old.table new.table (λ (told left : Table) (run : IsRun told quiets.added left) (agrees : Agrees old.bus old.on told) (on : old.on ≡ true) (calm : IsUndisturbed (since old new)).
     settles-by bus old told left (calls_of quiets.added) law (on-or-off told told.power refl) kind agrees on (lead-since quiets.added old new told left quiets.grows run calm)) quiets.grows.run

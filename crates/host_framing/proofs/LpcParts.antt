@@ -45,22 +45,22 @@ sized : (n size : ℕ) → size ≡ 8 + n → (nat_le 8 size && (size == 8 + n))
 sized n size same = grind (arith, leb_tells, eqb_tells)
 
 -- just a header was read
-read_off : (on : Bool) (bytes : List ℕ) → on ≡ false → length bytes ≡ 8 → is_all_read on bytes ≡ true
+pub read_off : (on : Bool) (bytes : List ℕ) → on ≡ false → length bytes ≡ 8 → is_all_read on bytes ≡ true
 read_off false bytes off size = sized 0 (length bytes) size
 read_off true bytes off size = cc
 
 -- a header was read, and the body that it names
-read_on : (on : Bool) (bytes : List ℕ) → on ≡ true → length bytes ≡ 8 + response_length bytes → is_all_read on bytes ≡ true
+pub read_on : (on : Bool) (bytes : List ℕ) → on ≡ true → length bytes ≡ 8 + response_length bytes → is_all_read on bytes ≡ true
 read_on true bytes on size = sized (response_length bytes) (length bytes) size
 read_on false bytes on size = cc
 
 -- what is heard where the host does not read on
-heard_off : (on : Bool) (heard : Heard) → on ≡ false → Bad ≡ heard_if on heard
+pub heard_off : (on : Bool) (heard : Heard) → on ≡ false → Bad ≡ heard_if on heard
 heard_off false heard off = refl
 heard_off true heard off = cc
 
 -- what is heard where the host reads on
-heard_on : (on : Bool) (heard : Heard) → on ≡ true → heard ≡ heard_if on heard
+pub heard_on : (on : Bool) (heard : Heard) → on ≡ true → heard ≡ heard_if on heard
 heard_on true heard on = refl
 heard_on false heard on = cc
 

@@ -1,7 +1,6 @@
 // The sequences on LPC: a window of 256 bytes for the packet, a port that shows the status and takes the command byte,
 // and one that shows the low byte of the result.
 ghost use Rattle.std.specs.Prelude.{◌≡◌, ◌≤◌, ◌+◌, ◌∷◌, [], ℕ, length};
-ghost use Rattle.ec_model.specs.Packet.{response_length};
 ghost use Rattle.ec_model.specs.Bus.{is_busy};
 ghost use Rattle.ec_types.specs.declared.bus.BusKind.TheVariants.{Lpc as LpcKind};
 ghost use Rattle.host_framing.specs.Parts.{
@@ -23,10 +22,10 @@ ghost use Rattle.host_framing.specs.Clean.{
   CausedWhereCalm,
   RestsBehind,
 };
+ghost use Rattle.host_framing.specs.Room.{TakesWhereCalm};
 ghost use Rattle.exchange_laws.specs.Served.{IsPlain};
 
-use crate::calls::{Raw, did, judge, waited};
-use byteorder::{ByteOrder, LittleEndian};
+use crate::calls::{Raw, did, judge, named_length, waited};
 use ec_model::Access;
 use ec_packet::{HEADER_LENGTH, Packet};
 use ec_types::{COMMAND_PROTOCOL_3, lpc};
@@ -137,14 +136,6 @@ fn ask_lpc<W: Wire>(w: &mut W, packet: &Packet) -> bool
     true
 }
 
-// How long a body a response's header names.
-fn named_length(bytes: &[u8]) -> u16
-    requires { 8 ≤ length bytes.now }
-    ensures { result ≡ response_length bytes.now }
-{
-    LittleEndian::read_u16(&bytes[4..])
-}
-
 // Reads the result byte and the response, as much of it as the window can hold.
 fn hear_lpc<W: Wire>(w: &mut W, reply: &mut Packet) -> Raw
     requires { 257 ≤ (W.view w.old).spare }
@@ -203,6 +194,7 @@ pub fn send_lpc<W: Wire>(w: &mut W, packet: &Packet, reply: &mut Packet) -> Raw
     ensures exchange { ExchangesWhereCalm packet.now (heard_of result reply.new) (W.view w.old) (W.view w.new) }
     ensures cause { CausedWhereCalm (heard_of result reply.new) (W.view w.old) (W.view w.new) }
     ensures rests { RestsBehind (W.view w.old) (W.view w.new) }
+    ensures takes { TakesWhereCalm packet.now (heard_of result reply.new) (W.view w.old) (W.view w.new) }
     ensures room { (W.view w.old).spare ≤ (W.view w.new).spare + 531 }
 {
     steps_lpc(w, packet, reply)
