@@ -12,7 +12,7 @@ use std::marker::Model;
 /// The text of one line, in a buffer that holds the longest one.
 #[derive(Drop)]
 pub struct LineText {
-    bytes: ArrayVec<u8, 12288>,
+    bytes: ArrayVec<u8, 16640>,
 }
 
 impl Model for LineText {
@@ -22,7 +22,7 @@ impl Model for LineText {
 
     ghost view = { λ text. text.bytes.items };
 
-    ghost invariant = { λ text. length text.bytes.items ≤ 12288 };
+    ghost invariant = { λ text. length text.bytes.items ≤ 16640 };
 }
 
 impl LineText {
@@ -51,7 +51,7 @@ impl LineText {
 
     /// Appends bytes that fit.
     pub fn append(&mut self, bytes: &[u8])
-        requires { length self.old + length bytes.now ≤ 12288 }
+        requires { length self.old + length bytes.now ≤ 16640 }
         ensures { self.new ≡ self.old ++ bytes.now }
     {
         self.bytes.try_extend_from_slice(bytes).unwrap();
@@ -59,7 +59,7 @@ impl LineText {
 
     /// Appends a byte as two lower case hexadecimal digits.
     pub fn append_byte(&mut self, byte: u8)
-        requires { length self.old + 2 ≤ 12288 }
+        requires { length self.old + 2 ≤ 16640 }
         ensures text { self.new ≡ self.old ++ encode_lower (byte ∷ []) }
         ensures long { length self.new ≡ length self.old + 2 }
     {
@@ -71,7 +71,7 @@ impl LineText {
     /// Appends bytes as two lower case hexadecimal digits each.
     pub fn append_hex(&mut self, bytes: &[u8])
         requires few { length bytes.now ≤ 544 }
-        requires fits { length self.old + 2 * length bytes.now ≤ 12288 }
+        requires fits { length self.old + 2 * length bytes.now ≤ 16640 }
         ensures text { self.new ≡ self.old ++ encode_lower bytes.now }
         ensures long { length self.new ≡ length self.old + 2 * length bytes.now }
     {

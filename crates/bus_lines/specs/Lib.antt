@@ -1,2 +1,2 @@
-pub mod Raw
+pub mod BusCalls
 pub mod Making

@@ -1,63 +1,96 @@
 // Each line: room for its calls, the calls, and its text.
-ghost use Rattle.std.specs.Prelude.{◌≡◌, ◌≤◌, ◌+◌, length};
+ghost use Rattle.std.specs.Prelude.{◌≡◌, ◌≤◌, [], length, replicate};
 ghost use Rattle.flash_dev.specs.Counts.{Rose};
-ghost use Rattle.bus_lines.specs.Raw.{Waits, Writes, Reads};
-ghost use Rattle.bus_lines.specs.Making.{RunsRaw};
+ghost use Rattle.ec_model.specs.HostCalls.{Waited};
+ghost use Rattle.ec_wire.specs.Calls.{Made};
+ghost use Rattle.script_lines.specs.Lines.{IsInRange};
+ghost use Rattle.bus_lines.specs.BusCalls.{calls_in};
+ghost use Rattle.bus_lines.specs.Making.{DoesBusLine, RunsBusLine};
 
-use crate::calls::{read_in_row, reserve, wait_times, write_in_row};
+use crate::ports::{read_in_row, write_in_row};
+use crate::{i2c, spi};
 use bench_io::{LineText, PrintErr, Sink, print};
+use ec_model::Access;
 use ec_wire::Wire;
-use script_words::HexBytes;
+use script_lines::BusLine;
 
-/// Waits so often, and prints `ok`.
-pub fn tick<W: Wire, K: Sink>(w: &mut W, count: u32, sink: &mut K) -> Result<(), PrintErr>
-    ensures runs { RunsRaw result (Waits count) (W.view w.old) (W.view w.new) (K.written sink.old)
-        (K.written sink.new) }
-    ensures cause { result ≡ Err PrintErr.Sink → Rose (K.faults sink.old) (K.faults sink.new) }
-    ensures later { K.faults sink.old ≤ K.faults sink.new }
+// How many calls a line is.
+fn calls_in(line: &BusLine<'_>) -> usize
+    requires { IsInRange line.now }
+    ensures { result ≡ calls_in line.now }
 {
-    reserve(w, count as usize)?;
-    wait_times(w, count);
-    print(sink, b"ok\n")
+    match line {
+        BusLine::Tick { count } => *count as usize,
+        BusLine::PortsOut { port: _, bytes } => bytes.len(),
+        BusLine::PortsIn { port: _, count } => usize::from(*count),
+        BusLine::I2cWrite { bytes } => bytes.len() + 2,
+        BusLine::I2cRead { count } => usize::from(*count) + 2,
+        BusLine::SpiSelect | BusLine::SpiDeselect => 1,
+        BusLine::SpiBytes { bytes } => bytes.len(),
+    }
 }
 
-/// Writes the bytes to the ports from this one on, and prints `ok`.
-pub fn write_ports<W: Wire, K: Sink>(
-    w: &mut W,
-    port: u16,
-    bytes: &HexBytes<'_>,
-    sink: &mut K,
-) -> Result<(), PrintErr>
-    requires { port + length bytes.now ≤ 65536 }
-    ensures runs { RunsRaw result (Writes port bytes.now) (W.view w.old) (W.view w.new) (K.written sink.old)
-        (K.written sink.new) }
-    ensures cause { result ≡ Err PrintErr.Sink → Rose (K.faults sink.old) (K.faults sink.new) }
-    ensures later { K.faults sink.old ≤ K.faults sink.new }
+// Waits so often.
+fn wait_times<W: Wire>(w: &mut W, count: u32)
+    requires { count ≤ (W.view w.old).spare }
+    ensures { Made (replicate count Waited) (W.view w.old) (W.view w.new) }
 {
-    reserve(w, bytes.len())?;
-    write_in_row(w, port, bytes);
-    print(sink, b"ok\n")
+    for _turn in 0..count {
+        w.wait();
+    }
 }
 
-/// Reads so many ports from this one on, and prints the bytes that the host got, as two lower case hexadecimal digits
-/// each. The text is made in `text`, whatever it had.
-pub fn read_ports<W: Wire, K: Sink>(
+// Makes the calls of a line. The text, which is empty, becomes the line's without its line feed.
+fn make_calls<W: Wire>(w: &mut W, line: &BusLine<'_>, text: &mut LineText)
+    requires within { IsInRange line.now }
+    requires room { calls_in line.now ≤ (W.view w.old).spare }
+    requires empty { text.old ≡ [] }
+    ensures does { DoesBusLine line.now text.new (W.view w.old) (W.view w.new) }
+    ensures short { length text.new ≤ 16384 }
+{
+    match line {
+        BusLine::Tick { count } => {
+            wait_times(w, *count);
+            text.append(b"ok");
+        }
+        BusLine::PortsOut { port, bytes } => {
+            write_in_row(w, *port, bytes);
+            text.append(b"ok");
+        }
+        BusLine::PortsIn { port, count } => read_in_row(w, *port, *count, text),
+        BusLine::I2cWrite { bytes } => {
+            i2c::write(w, bytes);
+            text.append(b"ok");
+        }
+        BusLine::I2cRead { count } => i2c::read(w, *count, text),
+        BusLine::SpiSelect => {
+            w.access(Access::SpiSelect);
+            text.append(b"ok");
+        }
+        BusLine::SpiDeselect => {
+            w.access(Access::SpiDeselect);
+            text.append(b"ok");
+        }
+        BusLine::SpiBytes { bytes } => spi::send(w, bytes, text),
+    }
+}
+
+/// Carries out a line and prints its text: `ok`, or each byte that the host got as two lower case hexadecimal digits. The
+/// text is made in `text`, whatever it had.
+pub fn run<W: Wire, K: Sink>(
     w: &mut W,
-    port: u16,
-    count: u16,
+    line: &BusLine<'_>,
     text: &mut LineText,
     sink: &mut K,
 ) -> Result<(), PrintErr>
-    requires ports { port + count ≤ 65536 }
-    requires few { count ≤ 4096 }
-    ensures runs { RunsRaw result (Reads port count) (W.view w.old) (W.view w.new) (K.written sink.old)
-        (K.written sink.new) }
+    requires { IsInRange line.now }
+    ensures runs { RunsBusLine result line.now (W.view w.old) (W.view w.new) (K.written sink.old) (K.written sink.new) }
     ensures cause { result ≡ Err PrintErr.Sink → Rose (K.faults sink.old) (K.faults sink.new) }
     ensures later { K.faults sink.old ≤ K.faults sink.new }
 {
-    reserve(w, usize::from(count))?;
+    w.reserve(calls_in(line))?;
     text.clear();
-    read_in_row(w, port, count, text);
+    make_calls(w, line, text);
     text.append(b"\n");
     print(sink, text.as_bytes())
 }

@@ -1,5 +1,5 @@
 -- Entries that a line adds.
-use Rattle.std.proofs.Common.{◌≡◌, refl, sym, ap, ◌∙◌, subst, ℕ, Bool, false, List, [], ◌∷◌, codes, inl, inr, Option, Result, Ok, Err}
+use Rattle.std.proofs.Common.{◌≡◌, refl, sym, ap, ◌∙◌, subst, ℕ, Bool, List, [], ◌∷◌, codes, inl, inr, Option, Result, Ok, Err}
 use Rattle.ec_types.specs.Tables.{packet_limit}
 use Rattle.ec_types.specs.declared.bus.BusKind.{BusKind}
 use Rattle.ec_types.specs.declared.bus.BusKind.TheVariants.{Lpc}
@@ -14,12 +14,12 @@ use Rattle.bench_wire.proofs.Extending.{extends-then, extends-grows, extends-nil
 use Rattle.ectool_lines.specs.Requests.{commands_of}
 use Rattle.ectool_lines.specs.Texts.{printed}
 use Rattle.ectool_lines.specs.Asking.{AsksEach, Hears}
-use Rattle.bus_lines.specs.Raw.{Raw}
+use Rattle.script_lines.specs.declared.line.BusLine.{BusLine}
 use Rattle.ecbench.specs.declared.run.Exit.{Exit}
 use Rattle.ecbench.specs.declared.run.Exit.TheVariants.{Done, BadWords, BadFlash, BadLine, SourceFault, SinkFault, NoMemory, ScriptTooLong}
 use Rattle.ecbench.specs.Lines.{Happens, Makes, deed_of, DoesDeed, WasCarried, HasHappened, HasMade}
 use Rattle.ecbench.specs.Endings.{seen}
-use Rattle.ecbench.specs.Serving.{MarksLine, CarriesLine, HappensLine, HappensMarked, MakesMarked, DoesLine, Carried, Happened, Made, ServesLine, ServesEvent, ServesRaw}
+use Rattle.ecbench.specs.Serving.{MarksLine, CarriesLine, HappensLine, HappensMarked, MakesMarked, DoesLine, Carried, Happened, Made, ServesLine, ServesEvent, ServesCalls}
 
 -- the same from another room
 extends-spare : (spare : ℕ) (added : List Entry) (old new : WireView) → Extends added (with_spare spare old) new → Extends added old new
@@ -84,8 +84,8 @@ happened-adds number line text old new happened said =
       });
     }
 
-made-adds : (number : ℕ) (line text words : List ℕ) (raw : Raw) (old new : WireView) → old.armed ≡ [] → deed_of line ≡ Ok (Makes raw) → MakesMarked number raw words old new → text ≡ printed words → LineAdds number line text old new
-made-adds number line text words raw old new disarmed wants behind said =
+made-adds : (number : ℕ) (line text words : List ℕ) (calls : BusLine) (old new : WireView) → old.armed ≡ [] → deed_of line ≡ Ok (Makes calls) → MakesMarked number calls words old new → text ≡ printed words → LineAdds number line text old new
+made-adds number line text words calls old new disarmed wants behind said =
     let marked = behind.marked in
     let mark = marks-extends number old marked behind.marks in
     let makes = behind.makes in
@@ -96,7 +96,7 @@ made-adds number line text words raw old new disarmed wants behind said =
       extends = extends-then (Mark number ∷ []) made.added old marked new mark
           (extends-spare makes.spare made.added marked new (extends-grows made.added (with_spare makes.spare marked) new made.grows));
       does = HasMade (record {
-        raw = raw;
+        line = calls;
         calls = makes.calls;
         words = words;
         own = made.added;
@@ -104,7 +104,7 @@ made-adds number line text words raw old new disarmed wants behind said =
         entries_are = refl;
         alone = quiet.no_event;
         unchanged = quiet.no_byte;
-        is_raw = makes.is_raw;
+        is_line = makes.is_line;
         goes = record { calls_are = made.calls_are; steps = made.grows.steps; on_is = made.grows.on ∙ ap (λ (on : Bool). on_after made.added on) mark.on };
         said_is = said;
       });
@@ -113,7 +113,7 @@ made-adds number line text words raw old new disarmed wants behind said =
 pub line-adds : (number : ℕ) (line text : List ℕ) (old new : WireView) → old.bus ≡ Lpc → old.armed ≡ [] → DoesLine number line text old new → LineAdds number line text old new
 line-adds number line text old new lpc disarmed (Carried carries) = carried-adds number line text old new lpc disarmed carries
 line-adds number line text old new lpc disarmed (Happened happened said) = happened-adds number line text old new happened said
-line-adds number line text old new lpc disarmed (Made raw words wants makes said) = made-adds number line text words raw old new disarmed wants makes said
+line-adds number line text old new lpc disarmed (Made calls words wants makes said) = made-adds number line text words calls old new disarmed wants makes said
 
 -- an event of the world, for a line that wants it
 pub event-line : (number : ℕ) (line : List ℕ) (happened : WorldEvent) (event : Event) (old new : WireView) → deed_of line ≡ Ok (Happens event) → ((other : Event) → IsEvent happened other → other ≡ event) → HappensMarked number happened old new → HappensLine number line old new
@@ -143,13 +143,13 @@ event-serves (Err SourceFault) number line happened event old new before after w
 event-serves (Err ScriptTooLong) number line happened event old new before after wants same never = absurd never
 
 -- what was done with calls of the host, for a line that wants them
-pub raw-serves : (result : Result (Unit {0}) Exit) (number : ℕ) (line : List ℕ) (raw : Raw) (old new : WireView) (before after : Option (List ℕ)) → deed_of line ≡ Ok (Makes raw) → ServesRaw result number raw old new before after → ServesLine result number line old new before after
-raw-serves (Ok done) number line raw old new before after wants (words, marked, said) = inr (printed words, Made raw words wants marked refl, said)
-raw-serves (Err SinkFault) number line raw old new before after wants (words, marked, said) = (printed words, Made raw words wants marked refl, said)
-raw-serves (Err NoMemory) number line raw old new before after wants (marked, unsaid) = (marked, unsaid)
-raw-serves (Err Done) number line raw old new before after wants never = absurd never
-raw-serves (Err BadWords) number line raw old new before after wants never = absurd never
-raw-serves (Err BadFlash) number line raw old new before after wants never = absurd never
-raw-serves (Err (BadLine at reason)) number line raw old new before after wants never = absurd never
-raw-serves (Err SourceFault) number line raw old new before after wants never = absurd never
-raw-serves (Err ScriptTooLong) number line raw old new before after wants never = absurd never
+pub calls-serves : (result : Result (Unit {0}) Exit) (number : ℕ) (line : List ℕ) (calls : BusLine) (old new : WireView) (before after : Option (List ℕ)) → deed_of line ≡ Ok (Makes calls) → ServesCalls result number calls old new before after → ServesLine result number line old new before after
+calls-serves (Ok done) number line calls old new before after wants (words, marked, said) = inr (printed words, Made calls words wants marked refl, said)
+calls-serves (Err SinkFault) number line calls old new before after wants (words, marked, said) = (printed words, Made calls words wants marked refl, said)
+calls-serves (Err NoMemory) number line calls old new before after wants (marked, unsaid) = (marked, unsaid)
+calls-serves (Err Done) number line calls old new before after wants never = absurd never
+calls-serves (Err BadWords) number line calls old new before after wants never = absurd never
+calls-serves (Err BadFlash) number line calls old new before after wants never = absurd never
+calls-serves (Err (BadLine at reason)) number line calls old new before after wants never = absurd never
+calls-serves (Err SourceFault) number line calls old new before after wants never = absurd never
+calls-serves (Err ScriptTooLong) number line calls old new before after wants never = absurd never

@@ -1,5 +1,5 @@
 -- Commands of a line on a controller whose flash tells its bytes, whatever befalls it.
-use Rattle.std.proofs.Common.{◌≡◌, refl, sym, ap, ◌∙◌, subst, ℕ, Bool, true, false, ◌⊎◌, inl, inr, List, [], ◌∷◌, ◌++◌}
+use Rattle.std.proofs.Common.{◌≡◌, refl, sym, ap, ◌∙◌, subst, ℕ, Bool, true, false, inl, inr, List, [], ◌∷◌}
 use Rattle.std.specs.List.{list_any}
 use Rattle.ec_types.specs.Tables.{packet_limit}
 use Rattle.ec_types.specs.declared.bus.BusKind.TheVariants.{Lpc}
@@ -14,8 +14,8 @@ use Rattle.ec_model.specs.HostCalls.{on_after, on_after_entry, on_after_event}
 use Rattle.ec_model.specs.Answer.{Outcome, Answered, Restarts}
 use Rattle.ec_model.specs.Handle.{handled}
 use Rattle.ec_model.specs.Table.{Table, Core, Power, Off, On, Awake, is_on, core_of}
-use Rattle.ec_model.specs.Work.{After, Work, Rest, Serve, EraseNext, HashNext, Boot, Stop, SetPin, bus_after, work_on, lost_answer, is_power_on}
-use Rattle.ec_model.specs.Step.{IsStep, EventLeavesBy, WorkLeaves, IsUnread, IsUnfinished, unread, unfinished, after_unread}
+use Rattle.ec_model.specs.Work.{After, Work, Serve, HashNext, Boot, bus_after, work_on, lost_answer, is_power_on}
+use Rattle.ec_model.specs.Step.{IsStep, EventLeavesBy, WorkLeaves, unread, unfinished, after_unread}
 use Rattle.ec_model.specs.Run.{IsRun}
 use Rattle.ec_model.specs.Upset.{is_upset, IsUndisturbed}
 use Rattle.ec_model.proofs.RunLaws.{run-valid, run-kind, run-split}

@@ -1,11 +1,8 @@
 -- A script on a controller whose flash tells its bytes, whatever befalls it: each line leads from one state to the next.
-use Rattle.std.proofs.Common.{◌≡◌, refl, sym, ap, ◌∙◌, subst, ℕ, ◌+◌, Bool, List, [], ◌∷◌, ◌++◌, length, Option}
+use Rattle.std.proofs.Common.{◌≡◌, refl, sym, subst, ℕ, ◌+◌, Bool, List, [], ◌∷◌, length, Option}
 use Rattle.ec_model.specs.declared.event.Entry.{Entry}
 use Rattle.ec_model.specs.declared.event.Entry.TheVariants.{Step, Mark}
-use Rattle.ec_model.specs.declared.event.Event.{Event}
-use Rattle.flash_dev.specs.declared.hurt.Hurt.{Hurt}
-use Rattle.ec_model.specs.HostCalls.{on_after_entry}
-use Rattle.ec_model.specs.Table.{Table, is_on}
+use Rattle.ec_model.specs.Table.{Table}
 use Rattle.ec_model.specs.Run.{IsRun}
 use Rattle.ec_model.specs.Step.{IsStep}
 use Rattle.ec_model.proofs.RunLaws.{run-split}
@@ -16,7 +13,7 @@ use Rattle.ecbench.specs.declared.run.Exit.TheVariants.{Done, BadWords, BadFlash
 use Rattle.ecbench.specs.Lines.{CarriesOut, HappensOnce, MakesCalls, DoesDeed, WasCarried, HasHappened, HasMade, IsDone, WasPassed, WasDone, AreDone}
 use Rattle.ecbench.specs.Scripts.{Plays, PlaysUpTo}
 use Rattle.ecbench.specs.Endings.{seen, followed}
-use Rattle.ecbench.proofs.RawLemmas.{made-whole}
+use Rattle.ecbench.proofs.MadeLemmas.{made-whole}
 use Rattle.ecbench.proofs.FollowLemmas.{EachFollowed, each-followed, run-ready}
 
 -- a line that was done
@@ -66,7 +63,7 @@ called-follows number on table last text entries said after ready makes run =
     let own_run : IsRun table makes.own last = subst (λ (t : Table). IsRun t makes.own last) marked.1 marked.2 in
     record {
       does = HasMade (record {
-        raw = makes.raw;
+        line = makes.line;
         calls = makes.calls;
         words = makes.words;
         own = makes.own;
@@ -74,7 +71,7 @@ called-follows number on table last text entries said after ready makes run =
         entries_are = makes.entries_are;
         alone = makes.alone;
         unchanged = makes.unchanged;
-        is_raw = makes.is_raw;
+        is_line = makes.is_line;
         goes = record { run = own_run; makes = λ calm. (made-whole on table last makes.calls makes.own after ready makes.goes own_run calm).makes };
         said_is = makes.said_is;
       });

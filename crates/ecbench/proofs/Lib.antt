@@ -1,7 +1,7 @@
 pub mod Doing
 pub mod Adding
 pub mod EventLemmas
-pub mod RawLemmas
+pub mod MadeLemmas
 pub mod Undisturbed
 mod FollowLemmas
 mod Followed

@@ -22,7 +22,7 @@ use Rattle.ecbench.specs.Lines.{CarriesOut, HappensOnce, MakesCalls, DoesDeed, W
 use Rattle.ecbench.specs.Scripts.{Plays, PlaysUpTo}
 use Rattle.ecbench.specs.Endings.{seen, undisturbed}
 use Rattle.ecbench.proofs.EventLemmas.{event-ready}
-use Rattle.ecbench.proofs.RawLemmas.{made-whole}
+use Rattle.ecbench.proofs.MadeLemmas.{made-whole}
 
 -- nothing fails in either of two lists of entries
 whole-both : (first second : List Entry) → AreWhole (first ++ second) → AreWhole first × AreWhole second
@@ -119,7 +119,7 @@ called-whole number on table last text entries said after ready makes run whole 
     let made = made-whole on table last makes.calls makes.own after ready makes.goes own_run (calm-of makes.own makes.alone own_whole makes.unchanged) in
     record {
       does = HasMade (record {
-        raw = makes.raw;
+        line = makes.line;
         calls = makes.calls;
         words = makes.words;
         own = makes.own;
@@ -127,7 +127,7 @@ called-whole number on table last text entries said after ready makes run whole 
         entries_are = makes.entries_are;
         alone = makes.alone;
         unchanged = makes.unchanged;
-        is_raw = makes.is_raw;
+        is_line = makes.is_line;
         goes = made.makes;
         said_is = makes.said_is;
       });

@@ -21,7 +21,8 @@ use Rattle.ectool_lines.specs.Tools.{tool_of, IsInRange}
 use Rattle.ectool_lines.specs.Requests.{Asked, commands_of}
 use Rattle.ectool_lines.specs.Texts.{LineEnd, line_text, printed}
 use Rattle.ectool_lines.specs.Asking.{AsksEach}
-use Rattle.bus_lines.specs.Raw.{Raw, Waits, Writes, Reads, IsRaw}
+use Rattle.script_lines.specs.declared.line.BusLine.{BusLine}
+use Rattle.bus_lines.specs.BusCalls.{IsBusLine}
 
 -- what a line wants: nothing, that commands are sent, that an event of the world happens, or that the host makes calls of
 -- its own
@@ -29,7 +30,7 @@ pub data Deed : Type 0 where
   Nothing : Deed
   Asks : Tool → Deed
   Happens : Event → Deed
-  Makes : Raw → Deed
+  Makes : BusLine → Deed
 
 -- what a line wants that was read so far
 abbrev pub deed_by : List ℕ → Line → Result Deed Why
@@ -38,9 +39,7 @@ deed_by text line.Tool = tool_of text >>= λ tool. Ok (Asks tool)
 deed_by text (line.Pin on) = Ok (Happens (event.Pin on))
 deed_by text (line.Power on) = Ok (Happens (event.Power on))
 deed_by text (line.Reset cause) = Ok (Happens (event.Reset cause))
-deed_by text (line.Tick count) = Ok (Makes (Waits count))
-deed_by text (line.PortsOut port bytes) = Ok (Makes (Writes port bytes))
-deed_by text (line.PortsIn port count) = Ok (Makes (Reads port count))
+deed_by text (line.Bus calls) = Ok (Makes calls)
 
 -- what a line wants, or its first fault
 abbrev pub deed_of : List ℕ → Result Deed Why
@@ -82,15 +81,15 @@ pub record HappensOnce {State : Type 0} (life : Life State)
 -- falls among its entries, and no byte is changed
 pub record MakesCalls {State : Type 0} (life : Life State)
     (number : ℕ) (old : State) (text : List ℕ) (entries : List Entry) (said : List ℕ) (new : State) : Type 0 where
-  pub raw : Raw
+  pub line : BusLine
   pub calls : List HostCall
   pub words : List ℕ
   pub own : List Entry
-  pub wants : deed_of text ≡ Ok (Makes raw)
+  pub wants : deed_of text ≡ Ok (Makes line)
   pub entries_are : entries ≡ Mark number ∷ own
   pub alone : IsFalse (list_any is_world own)
   pub unchanged : IsFalse (list_any is_changed own)
-  pub is_raw : IsRaw raw calls words
+  pub is_line : IsBusLine line calls words
   pub goes : life.makes old calls own new
   pub said_is : said ≡ printed words
 

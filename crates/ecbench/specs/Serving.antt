@@ -14,8 +14,8 @@ use Rattle.ectool_lines.specs.declared.tool.Tool.{Tool}
 use Rattle.ectool_lines.specs.Tools.{IsInRange}
 use Rattle.ectool_lines.specs.Texts.{printed}
 use Rattle.ectool_lines.specs.Running.{Appends, AppendsFront, Carries}
-use Rattle.bus_lines.specs.Raw.{Raw}
-use Rattle.bus_lines.specs.Making.{MakesRaw}
+use Rattle.script_lines.specs.declared.line.BusLine.{BusLine}
+use Rattle.bus_lines.specs.Making.{MakesBusLine}
 use Rattle.ecbench.specs.declared.run.Exit.{Exit}
 use Rattle.ecbench.specs.declared.run.Exit.TheVariants.{Done, BadLine, SinkFault, NoMemory, ScriptTooLong}
 use Rattle.line_reader.specs.Finding.{ReaderView}
@@ -66,16 +66,16 @@ pub record HappensLine (number : ℕ) (line : List ℕ) (old new : WireView) : T
   pub adds : Adds (Step event 0 0 0 hurt) marked new
 
 -- a line was marked, and these calls of the host were made; this is its text without the line feed
-pub record MakesMarked (number : ℕ) (raw : Raw) (words : List ℕ) (old new : WireView) : Type 0 where
+pub record MakesMarked (number : ℕ) (calls : BusLine) (words : List ℕ) (old new : WireView) : Type 0 where
   pub marked : WireView
   pub marks : MarksLine number old marked
-  pub makes : MakesRaw raw words marked new
+  pub makes : MakesBusLine calls words marked new
 
 -- a line was done, and this is its text
 pub data DoesLine (number : ℕ) (line text : List ℕ) (old new : WireView) : Type 0 where
   Carried : CarriesLine number line text old new → DoesLine number line text old new
   Happened : HappensLine number line old new → text ≡ printed (codes "ok") → DoesLine number line text old new
-  Made : (raw : Raw) (words : List ℕ) → deed_of line ≡ Ok (Makes raw) → MakesMarked number raw words old new → text ≡ printed words → DoesLine number line text old new
+  Made : (calls : BusLine) (words : List ℕ) → deed_of line ≡ Ok (Makes calls) → MakesMarked number calls words old new → text ≡ printed words → DoesLine number line text old new
 
 -- a line that does nothing was passed over
 pub record PassesLine (line : List ℕ) (old new : WireView) (before after : Option (List ℕ)) : Type 0 where
@@ -126,14 +126,14 @@ ServesEvent (Err other) number happened old new before after = ⊥
 
 -- what was done with calls of the host: they were made, and their text was printed, whole or in part; or memory was refused,
 -- and the line was marked at most
-abbrev pub ServesRaw : Result (Unit {0}) Exit → ℕ → Raw → WireView → WireView → (before after : Option (List ℕ)) → Type 0
-ServesRaw (Ok done) number raw old new before after =
-    (words : List ℕ) × MakesMarked number raw words old new × Appends (printed words) before after
-ServesRaw (Err SinkFault) number raw old new before after =
-    (words : List ℕ) × MakesMarked number raw words old new × AppendsFront (printed words) before after
-ServesRaw (Err NoMemory) number raw old new before after =
+abbrev pub ServesCalls : Result (Unit {0}) Exit → ℕ → BusLine → WireView → WireView → (before after : Option (List ℕ)) → Type 0
+ServesCalls (Ok done) number calls old new before after =
+    (words : List ℕ) × MakesMarked number calls words old new × Appends (printed words) before after
+ServesCalls (Err SinkFault) number calls old new before after =
+    (words : List ℕ) × MakesMarked number calls words old new × AppendsFront (printed words) before after
+ServesCalls (Err NoMemory) number calls old new before after =
     ((new ≡ old) ⊎ MarksLine number old new) × Appends [] before after
-ServesRaw (Err other) number raw old new before after = ⊥
+ServesCalls (Err other) number calls old new before after = ⊥
 
 -- a script was served as far as the exit says
 pub record Serves (exit : Exit) (old new : WireView) (left rest before after : Option (List ℕ)) : Type 0 where

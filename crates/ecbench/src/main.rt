@@ -6,10 +6,10 @@
 //! what went wrong, of which no clause speaks.
 #![tactic(auto)]
 
+mod calling;
 #[cfg(test)]
 mod image_tests;
 mod marking;
-mod raw;
 mod run;
 mod serving;
 mod telling;

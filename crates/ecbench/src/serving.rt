@@ -9,8 +9,8 @@ ghost use Rattle.script_words.specs.Faults.{kind_of};
 ghost use Rattle.ecbench.specs.declared.run.Exit.TheVariants.{BadLine};
 ghost use Rattle.ecbench.specs.Serving.{fresh_reader, Drives, Serves, PowersOn, ServesLine, ServesEvent, exit_at};
 
+use crate::calling::serve_calls;
 use crate::marking::begin;
-use crate::raw::{serve_in, serve_out, serve_tick};
 use crate::run::Exit;
 use bench_io::{Sink, Source, print};
 use bench_wire::Bench;
@@ -131,16 +131,7 @@ fn serve_line<F: FlashDev, K: Sink>(
         Ok(Line::Pin { on }) => serve_event(bench, number, WorldEvent::Pin { on }, sink),
         Ok(Line::Power { on }) => serve_event(bench, number, WorldEvent::Power { on }, sink),
         Ok(Line::Reset { cause }) => serve_event(bench, number, WorldEvent::Reset { cause }, sink),
-        Ok(Line::Tick { count }) => serve_tick(bench, number, count, sink),
-        Ok(Line::PortsOut { port, bytes }) => serve_out(bench, number, port, &bytes, sink),
-        Ok(Line::PortsIn { port, count }) => serve_in(
-            bench,
-            number,
-            port,
-            count,
-            &mut buffers.text,
-            sink,
-        ),
+        Ok(Line::Bus(calls)) => serve_calls(bench, number, &calls, &mut buffers.text, sink),
         Err(fault) => Err(bad_line(number, fault)),
     }
 }

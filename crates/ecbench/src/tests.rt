@@ -184,6 +184,10 @@ fn bus_lines_reach_the_bus(rt: HostRuntime) -> Result<(), Fail> {
             b"out 65535 00\nin 0xfffe 2\npower off\ntick 3\nin 0x204 1\nout 0x204 da\npower on\nhello".as_slice(),
             b"ok\nffff\nok\nok\nff\nok\nok\nEC says hello!\n".as_slice(),
         ),
+        (
+            b"i2cw da03\ni2cr 3\nspi select\nspi 0300\nspi deselect\nhello".as_slice(),
+            b"ok\nffffff\nok\nffff\nok\nEC says hello!\n".as_slice(),
+        ),
     ] {
         let _entries = plays_whole(&rt, script, Exit::Done, text)?;
     }

@@ -10,7 +10,9 @@ use Rattle.script_words.specs.Words.{words_of}
 use Rattle.script_words.specs.Lines.{checked, does_nothing}
 use Rattle.script_words.specs.Forms.{◌>>=◌, one_word, two_words, with_one, number_to, count_to, hex_to}
 use Rattle.script_lines.specs.declared.line.Line.{Line}
-use Rattle.script_lines.specs.declared.line.Line.TheVariants.{Nothing, Tool, Pin, Power, Reset, Tick, PortsOut, PortsIn}
+use Rattle.script_lines.specs.declared.line.Line.TheVariants.{Nothing, Tool, Pin, Power, Reset, Bus}
+use Rattle.script_lines.specs.declared.line.BusLine.{BusLine}
+use Rattle.script_lines.specs.declared.line.BusLine.TheVariants.{Tick, PortsOut, PortsIn, I2cWrite, I2cRead, SpiSelect, SpiDeselect, SpiBytes}
 
 -- whether a word says on or off
 abbrev pub switch_named : List ℕ → Option Bool
@@ -36,22 +38,33 @@ abbrev pub cause_to : List ℕ → Result WorldReset Why
 cause_to word = ok_or (cause_named word) Word
 
 -- bytes for ports in a row, the last of which is at most 65,535
-abbrev pub ports_out : ℕ → List ℕ → Result Line Why
+abbrev pub ports_out : ℕ → List ℕ → Result BusLine Why
 ports_out port bytes = if nat_le (port + length bytes) 65536 then Ok (PortsOut port bytes) else Err Number
 
 -- a first port and bytes; that there are as many ports is tested last
-abbrev pub out_by : List (List ℕ) → Result Line Why
+abbrev pub out_by : List (List ℕ) → Result BusLine Why
 out_by words =
     two_words words >>= λ pair. number_to 65535 pair.0 >>= λ port. hex_to 8192 pair.1 >>= λ bytes. ports_out port bytes
 
 -- so many ports in a row, the last of which is at most 65,535
-abbrev pub ports_in : ℕ → ℕ → Result Line Why
+abbrev pub ports_in : ℕ → ℕ → Result BusLine Why
 ports_in port count = if nat_le (port + count) 65536 then Ok (PortsIn port count) else Err Number
 
 -- a first port and how many are read
-abbrev pub in_by : List (List ℕ) → Result Line Why
+abbrev pub in_by : List (List ℕ) → Result BusLine Why
 in_by words =
     two_words words >>= λ pair. number_to 65535 pair.0 >>= λ port. count_to 4096 pair.1 >>= λ count. ports_in port count
+
+-- what a word behind `spi` says: select, deselect, or bytes
+abbrev pub spi_to : List ℕ → Result BusLine Why
+spi_to word =
+    if bytes_eq word (codes "select") then Ok SpiSelect else
+    if bytes_eq word (codes "deselect") then Ok SpiDeselect else
+    (hex_to 8192 word >>= λ bytes. Ok (SpiBytes bytes))
+
+-- one word behind `spi`
+abbrev pub spi_by : List (List ℕ) → Result BusLine Why
+spi_by words = one_word words >>= spi_to
 
 -- a line by its words: the first one, how many stand behind it, and what each of these is
 abbrev pub line_by : List (List ℕ) → Result Line Why
@@ -60,18 +73,29 @@ line_by (first ∷ words) =
     if bytes_eq first (codes "pin") then (switch_by words >>= λ on. Ok (Pin on)) else
     if bytes_eq first (codes "power") then (switch_by words >>= λ on. Ok (Power on)) else
     if bytes_eq first (codes "reset") then with_one cause_to Reset words else
-    if bytes_eq first (codes "tick") then with_one (count_to 100000) Tick words else
-    if bytes_eq first (codes "out") then out_by words else
-    if bytes_eq first (codes "in") then in_by words else
+    if bytes_eq first (codes "tick") then (with_one (count_to 100000) Tick words >>= λ calls. Ok (Bus calls)) else
+    if bytes_eq first (codes "out") then (out_by words >>= λ calls. Ok (Bus calls)) else
+    if bytes_eq first (codes "in") then (in_by words >>= λ calls. Ok (Bus calls)) else
+    if bytes_eq first (codes "i2cw") then (with_one (hex_to 8192) I2cWrite words >>= λ calls. Ok (Bus calls)) else
+    if bytes_eq first (codes "i2cr") then (with_one (count_to 4096) I2cRead words >>= λ calls. Ok (Bus calls)) else
+    if bytes_eq first (codes "spi") then (spi_by words >>= λ calls. Ok (Bus calls)) else
     Ok Tool
 
 -- a line, or its first fault
 abbrev pub line_of : List ℕ → Result Line Why
 line_of line = if does_nothing line then Ok Nothing else checked line >>= λ _. line_by (words_of line)
 
--- the numbers and bytes that a line may have: each port is at most 65,535
-abbrev pub IsInRange : Line → Type 0
+-- the numbers and bytes that a line may have which calls the bus: each port is at most 65,535
+abbrev pub IsInRange : BusLine → Type 0
 IsInRange (Tick count) = (1 ≤ count) × (count ≤ 100000)
-IsInRange (PortsOut port bytes) = (1 ≤ length bytes) × (port + length bytes ≤ 65536)
+IsInRange (PortsOut port bytes) = (1 ≤ length bytes) × (length bytes ≤ 8192) × (port + length bytes ≤ 65536)
 IsInRange (PortsIn port count) = (1 ≤ count) × (count ≤ 4096) × (port + count ≤ 65536)
+IsInRange (I2cWrite bytes) = (1 ≤ length bytes) × (length bytes ≤ 8192)
+IsInRange (I2cRead count) = (1 ≤ count) × (count ≤ 4096)
+IsInRange (SpiBytes bytes) = (1 ≤ length bytes) × (length bytes ≤ 8192)
 IsInRange other = Unit {0}
+
+-- the same of any line
+abbrev pub IsLineInRange : Line → Type 0
+IsLineInRange (Bus calls) = IsInRange calls
+IsLineInRange other = Unit {0}

@@ -2,22 +2,28 @@
 ghost use Rattle.std.specs.Prelude.{◌≡◌, ◌≤◌, ◌∷◌, length, IfOk};
 ghost use Rattle.script_words.specs.Words.{words_of};
 ghost use Rattle.script_words.specs.Faults.{by_kind};
-ghost use Rattle.script_words.specs.Forms.{with_one, count_to};
-ghost use Rattle.script_lines.specs.Lines.{switch_by, switch_named, cause_to, cause_named, ports_out, out_by, ports_in, in_by, line_of, line_by, IsInRange};
+ghost use Rattle.script_words.specs.Forms.{with_one, count_to, hex_to};
+ghost use Rattle.script_lines.specs.Lines.{switch_by, switch_named, cause_to, cause_named, ports_out, out_by, ports_in, in_by, spi_by, line_of, line_by, IsInRange, IsLineInRange};
 
-use crate::Line;
+use crate::{BusLine, Line};
 use ec_model::WorldReset;
 use script_words::{
     Fault, HexBytes, Wanted, check_line, count_to, is_word, next_word, number_to, one_word,
     two_words,
 };
 
+// The most bytes that a word of a line spells.
+const MOST_BYTES: usize = 8192;
+
+// The most bytes that a line reads.
+const MOST_READS: u32 = 4096;
+
 /// What a line without its line feed says, or the first thing that is wrong with it: its length, its bytes, then, where its
 /// first word is one of these lines', how many words there are behind it, and at last the first word from the left that is
 /// not what it should be. Ports above 65,535 are told where each word for itself is what it should be.
 pub fn parse(line: &[u8]) -> Result<Line<'_>, Fault>
     ensures line { by_kind result ≡ line_of line.now }
-    ensures within { IfOk result IsInRange }
+    ensures within { IfOk result IsLineInRange }
 {
     check_line(line)?;
     if line.starts_with(b"#") {
@@ -32,7 +38,7 @@ pub fn parse(line: &[u8]) -> Result<Line<'_>, Fault>
 // The line with this first word, and the others after it.
 fn by_words<'a>(first: &[u8], rest: &'a [u8]) -> Result<Line<'a>, Fault>
     ensures line { by_kind result ≡ line_by (first.now ∷ words_of rest.now) }
-    ensures within { IfOk result IsInRange }
+    ensures within { IfOk result IsLineInRange }
 {
     if is_word(first, b"pin") {
         Ok(Line::Pin { on: switch(rest)? })
@@ -41,11 +47,17 @@ fn by_words<'a>(first: &[u8], rest: &'a [u8]) -> Result<Line<'a>, Fault>
     } else if is_word(first, b"reset") {
         reset(rest)
     } else if is_word(first, b"tick") {
-        tick(rest)
+        Ok(Line::Bus(tick(rest)?))
     } else if is_word(first, b"out") {
-        ports_out(rest)
+        Ok(Line::Bus(ports_out(rest)?))
     } else if is_word(first, b"in") {
-        ports_in(rest)
+        Ok(Line::Bus(ports_in(rest)?))
+    } else if is_word(first, b"i2cw") {
+        Ok(Line::Bus(i2c_write(rest)?))
+    } else if is_word(first, b"i2cr") {
+        Ok(Line::Bus(i2c_read(rest)?))
+    } else if is_word(first, b"spi") {
+        Ok(Line::Bus(spi(rest)?))
     } else {
         Ok(Line::Tool)
     }
@@ -87,51 +99,89 @@ fn switch(words: &[u8]) -> Result<bool, Fault>
 
 fn reset(words: &[u8]) -> Result<Line<'_>, Fault>
     ensures line { by_kind result ≡ with_one cause_to Line.Reset (words_of words.now) }
-    ensures within { IfOk result IsInRange }
+    ensures within { IfOk result IsLineInRange }
 {
     let word = one_word(words)?;
     let cause = cause_named(word).ok_or(Fault::of_word(2, Wanted::Cause))?;
     Ok(Line::Reset { cause })
 }
 
-fn tick(words: &[u8]) -> Result<Line<'_>, Fault>
-    ensures line { by_kind result ≡ with_one (count_to 100000) Line.Tick (words_of words.now) }
+fn tick(words: &[u8]) -> Result<BusLine<'_>, Fault>
+    ensures line { by_kind result ≡ with_one (count_to 100000) BusLine.Tick (words_of words.now) }
     ensures within { IfOk result IsInRange }
 {
     let count = one_word(words)?;
-    Ok(Line::Tick {
+    Ok(BusLine::Tick {
         count: count_to(2, count, 100_000)?,
     })
 }
 
-fn ports_out(words: &[u8]) -> Result<Line<'_>, Fault>
+fn ports_out(words: &[u8]) -> Result<BusLine<'_>, Fault>
     ensures line { by_kind result ≡ out_by (words_of words.now) }
     ensures within { IfOk result IsInRange }
 {
     let (port, bytes) = two_words(words)?;
     let port = number_to(2, port, 65535)?;
-    let bytes = HexBytes::of_word(3, bytes, 8192)?;
+    let bytes = HexBytes::of_word(3, bytes, MOST_BYTES)?;
     if port as usize + bytes.len() > 65536 {
         return Err(Fault::of_word(3, Wanted::Ports));
     }
-    Ok(Line::PortsOut {
+    Ok(BusLine::PortsOut {
         port: port as u16,
         bytes,
     })
 }
 
-fn ports_in(words: &[u8]) -> Result<Line<'_>, Fault>
+fn ports_in(words: &[u8]) -> Result<BusLine<'_>, Fault>
     ensures line { by_kind result ≡ in_by (words_of words.now) }
     ensures within { IfOk result IsInRange }
 {
     let (port, count) = two_words(words)?;
     let port = number_to(2, port, 65535)?;
-    let count = count_to(3, count, 4096)?;
+    let count = count_to(3, count, MOST_READS)?;
     if port + count > 65536 {
         return Err(Fault::of_word(3, Wanted::Ports));
     }
-    Ok(Line::PortsIn {
+    Ok(BusLine::PortsIn {
         port: port as u16,
         count: count as u16,
     })
+}
+
+fn i2c_write(words: &[u8]) -> Result<BusLine<'_>, Fault>
+    ensures line { by_kind result ≡ with_one (hex_to 8192) BusLine.I2cWrite (words_of words.now) }
+    ensures within { IfOk result IsInRange }
+{
+    let bytes = one_word(words)?;
+    Ok(BusLine::I2cWrite {
+        bytes: HexBytes::of_word(2, bytes, MOST_BYTES)?,
+    })
+}
+
+fn i2c_read(words: &[u8]) -> Result<BusLine<'_>, Fault>
+    ensures line { by_kind result ≡ with_one (count_to 4096) BusLine.I2cRead (words_of words.now) }
+    ensures within { IfOk result IsInRange }
+{
+    let count = one_word(words)?;
+    let count = count_to(2, count, MOST_READS)?;
+    Ok(BusLine::I2cRead {
+        count: count as u16,
+    })
+}
+
+fn spi(words: &[u8]) -> Result<BusLine<'_>, Fault>
+    ensures line { by_kind result ≡ spi_by (words_of words.now) }
+    ensures within { IfOk result IsInRange }
+{
+    let word = one_word(words)?;
+    if is_word(word, b"select") {
+        return Ok(BusLine::SpiSelect);
+    }
+    if is_word(word, b"deselect") {
+        return Ok(BusLine::SpiDeselect);
+    }
+    match HexBytes::of_word(2, word, MOST_BYTES) {
+        Ok(bytes) => Ok(BusLine::SpiBytes { bytes }),
+        Err(_) => Err(Fault::of_word(2, Wanted::SpiBytes { most: MOST_BYTES })),
+    }
 }

@@ -23,6 +23,13 @@ pub enum Line<'a> {
     Reset {
         cause: WorldReset,
     },
+    /// It calls the bus itself.
+    Bus(BusLine<'a>),
+}
+
+/// What a line of a script says that calls the bus itself. Bytes stand in the line.
+#[derive(Drop)]
+pub enum BusLine<'a> {
     /// `tick N`: the host waits.
     Tick {
         /// How often, 1 to 100,000 times.
@@ -41,5 +48,24 @@ pub enum Line<'a> {
         port: u16,
         /// How many ports, 1 to 4,096.
         count: u16,
+    },
+    /// `i2cw HEX`: a write is started on I2C, the bytes are written, and it is stopped.
+    I2cWrite {
+        /// At least one byte.
+        bytes: HexBytes<'a>,
+    },
+    /// `i2cr N`: a read is started on I2C, bytes are read, and it is stopped.
+    I2cRead {
+        /// How many bytes, 1 to 4,096.
+        count: u16,
+    },
+    /// `spi select`: SPI is selected.
+    SpiSelect,
+    /// `spi deselect`: SPI is deselected.
+    SpiDeselect,
+    /// `spi HEX`: bytes are exchanged on SPI.
+    SpiBytes {
+        /// At least one byte.
+        bytes: HexBytes<'a>,
     },
 }

@@ -1,5 +1,5 @@
 // Lines of scripts, and what is wrong with others.
-use crate::{Line, parse};
+use crate::{BusLine, Line, parse};
 use ec_model::WorldReset;
 use ec_types::Why;
 use script_words::{Fault, Wanted};
@@ -44,14 +44,19 @@ fn some_lines_do_nothing(rt: HostRuntime) {
 
 #[test]
 fn ticks_and_ports_are_read(rt: HostRuntime) {
-    assert!(rt; matches!(parse(b"tick 100000"), Ok(Line::Tick { count: 100_000 })));
+    assert!(rt;
+        matches!(
+            parse(b"tick 100000"),
+            Ok(Line::Bus(BusLine::Tick { count: 100_000 }))
+        )
+    );
     for (line, want) in [
         (b"in 0x200 1".as_slice(), (0x200, 1)),
         (b"in 61440 0x1000", (61_440, 4096)),
         (b"in 65535 1", (65_535, 1)),
     ] {
         match parse(line) {
-            Ok(Line::PortsIn { port, count }) => assert_eq!(rt; (port, count), want),
+            Ok(Line::Bus(BusLine::PortsIn { port, count })) => assert_eq!(rt; (port, count), want),
             _ => assert!(rt; false),
         }
     }
@@ -60,7 +65,7 @@ fn ticks_and_ports_are_read(rt: HostRuntime) {
         (b"out 65534 0a0B", (65_534, [0x0A, 0x0B])),
     ] {
         match parse(line) {
-            Ok(Line::PortsOut { port, bytes }) => {
+            Ok(Line::Bus(BusLine::PortsOut { port, bytes })) => {
                 let mut decoded = [0; 2];
                 assert_eq!(rt; bytes.len(), decoded.len());
                 bytes.decode(0, &mut decoded);
@@ -69,6 +74,20 @@ fn ticks_and_ports_are_read(rt: HostRuntime) {
             _ => assert!(rt; false),
         }
     }
+}
+
+#[test]
+fn lines_of_i2c_and_spi_are_read(rt: HostRuntime) {
+    assert!(rt; matches!(parse(b"i2cw dA"), Ok(Line::Bus(BusLine::I2cWrite { .. }))));
+    assert!(rt;
+        matches!(
+            parse(b"i2cr 4096"),
+            Ok(Line::Bus(BusLine::I2cRead { count: 4096 }))
+        )
+    );
+    assert!(rt; matches!(parse(b"spi select"), Ok(Line::Bus(BusLine::SpiSelect))));
+    assert!(rt; matches!(parse(b"spi deselect"), Ok(Line::Bus(BusLine::SpiDeselect))));
+    assert!(rt; matches!(parse(b"spi 00ff"), Ok(Line::Bus(BusLine::SpiBytes { .. }))));
 }
 
 #[test]
@@ -91,6 +110,13 @@ fn the_first_fault_counts(rt: HostRuntime) {
         (b"in 0 0", Why::Number),
         (b"in 0 4097", Why::Number),
         (b"in 65535 2", Why::Number),
+        (b"i2cw", Why::Count),
+        (b"i2cw 0", Why::Hex),
+        (b"i2cr 0", Why::Number),
+        (b"i2cr 4097", Why::Number),
+        (b"spi", Why::Count),
+        (b"spi select 00", Why::Count),
+        (b"spi up", Why::Hex),
     ] {
         match parse(line) {
             Err(fault) => assert_eq!(rt; fault.why(), want),

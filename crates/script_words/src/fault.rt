@@ -13,7 +13,8 @@ pub enum Wanted {
     #[error("printable ASCII")]
     Printable,
     #[error("one of hello, version, chipinfo, cmdversions, protoinfo, flashinfo, regioninfo, flashread, flashwrite, \
-             flashprotect, echash, sysinfo, reboot_ec, test, resend, pin, power, reset, tick, out and in")]
+             flashprotect, echash, sysinfo, reboot_ec, test, resend, pin, power, reset, tick, out, in, i2cw, i2cr \
+             and spi")]
     FirstWord,
     /// So many words behind the first one.
     #[error("{count}")]
@@ -50,6 +51,9 @@ pub enum Wanted {
     /// Two hexadecimal digits a byte.
     #[error("hexadecimal bytes, from 1 to {most} of them")]
     Bytes { most: usize },
+    /// What stands behind `spi`.
+    #[error("select, deselect or hexadecimal bytes, from 1 to {most} of them")]
+    SpiBytes { most: usize },
     /// Ports from the one that the line names on.
     #[error("within the ports from there to 65535")]
     Ports,
@@ -76,7 +80,7 @@ impl Wanted {
             | Wanted::Reboot => Why::Word,
             Wanted::Words { .. } | Wanted::ProtectWords | Wanted::HashWords => Why::Count,
             Wanted::Number { .. } | Wanted::Ports => Why::Number,
-            Wanted::Bytes { .. } => Why::Hex,
+            Wanted::Bytes { .. } | Wanted::SpiBytes { .. } => Why::Hex,
         }
     }
 }

@@ -1,4 +1,7 @@
 //! What the lines of a script are made of: words, numbers and hexadecimal bytes, and what is wrong with them.
+//!
+//! `script_lines` and `ectool_lines` stand on it, each with the grammar of its lines. What matters: each reader gives a
+//! value exactly where the word spells one, and the first fault of a line is told with its place.
 #![tactic(auto)]
 
 mod fault;

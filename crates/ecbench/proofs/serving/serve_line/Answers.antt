@@ -6,8 +6,7 @@ use Rattle.script_words.specs.Faults.{by_kind}
 use Rattle.script_lines.specs.declared.line.Line.{Line}
 use Rattle.script_lines.specs.declared.line.Line.TheVariants as line
 use Rattle.script_lines.specs.Lines.{line_of}
-use Rattle.bus_lines.specs.Raw.{Waits, Writes, Reads}
-use Rattle.ecbench.proofs.Adding.{event-serves, raw-serves}
+use Rattle.ecbench.proofs.Adding.{event-serves, calls-serves}
 use Rattle.ecbench.proofs.EventLemmas.{deed-read}
 use Rattle.ecbench.proofs.serving.serve_line.Goals as goal
 
@@ -29,22 +28,8 @@ returns-in-Ok-Reset-clause-serves g c =
     let is : line_of c.args.line.now ≡ Ok read = sym c.parse.ensures.line ∙ ap (λ (outcome : Result Line Fault). by_kind outcome) c.in-Ok-Reset.is ∙ ap (λ (found : Line). Ok found) c.in-Ok-Reset.field-0-is in
     event-serves c.serve_event-in-Ok-Reset.result c.args.number c.args.line.now (world.Reset c.in-Ok-Reset.cause) (event.Reset c.in-Ok-Reset.cause) _ _ _ _ (deed-read c.args.line.now read is) (λ other same. same) c.serve_event-in-Ok-Reset.ensures.serves
 
-pub returns-in-Ok-Tick-clause-serves : goal.returns-in-Ok-Tick-clause-serves
-returns-in-Ok-Tick-clause-serves g c =
-    let read = line.Tick c.in-Ok-Tick.count in
-    let is : line_of c.args.line.now ≡ Ok read = sym c.parse.ensures.line ∙ ap (λ (outcome : Result Line Fault). by_kind outcome) c.in-Ok-Tick.is ∙ ap (λ (found : Line). Ok found) c.in-Ok-Tick.field-0-is in
-    raw-serves c.serve_tick.result c.args.number c.args.line.now (Waits c.in-Ok-Tick.count) _ _ _ _ (deed-read c.args.line.now read is) c.serve_tick.ensures.serves
-
-pub returns-in-Ok-PortsOut-clause-serves : goal.returns-in-Ok-PortsOut-clause-serves
-returns-in-Ok-PortsOut-clause-serves g c =
-    let port = c.in-Ok-PortsOut.port in
-    let bytes = c.in-Ok-PortsOut.bytes in
-    let read = line.PortsOut port bytes in
-    let is : line_of c.args.line.now ≡ Ok read = sym c.parse.ensures.line ∙ ap (λ (outcome : Result Line Fault). by_kind outcome) c.in-Ok-PortsOut.is ∙ ap (λ (found : Line). Ok found) c.in-Ok-PortsOut.field-0-is in
-    raw-serves c.serve_out.result c.args.number c.args.line.now (Writes port bytes) _ _ _ _ (deed-read c.args.line.now read is) c.serve_out.ensures.serves
-
-pub returns-in-Ok-PortsIn-clause-serves : goal.returns-in-Ok-PortsIn-clause-serves
-returns-in-Ok-PortsIn-clause-serves g c =
-    let read = line.PortsIn c.in-Ok-PortsIn.port c.in-Ok-PortsIn.count in
-    let is : line_of c.args.line.now ≡ Ok read = sym c.parse.ensures.line ∙ ap (λ (outcome : Result Line Fault). by_kind outcome) c.in-Ok-PortsIn.is ∙ ap (λ (found : Line). Ok found) c.in-Ok-PortsIn.field-0-is in
-    raw-serves c.serve_in.result c.args.number c.args.line.now (Reads c.in-Ok-PortsIn.port c.in-Ok-PortsIn.count) _ _ _ _ (deed-read c.args.line.now read is) c.serve_in.ensures.serves
+pub returns-in-Ok-Bus-clause-serves : goal.returns-in-Ok-Bus-clause-serves
+returns-in-Ok-Bus-clause-serves g c =
+    let read = line.Bus c.in-Ok-Bus.calls in
+    let is : line_of c.args.line.now ≡ Ok read = sym c.parse.ensures.line ∙ ap (λ (outcome : Result Line Fault). by_kind outcome) c.in-Ok-Bus.is ∙ ap (λ (found : Line). Ok found) c.in-Ok-Bus.field-0-is in
+    calls-serves c.serve_calls.result c.args.number c.args.line.now c.in-Ok-Bus.calls _ _ _ _ (deed-read c.args.line.now read is) c.serve_calls.ensures.serves

@@ -1,7 +1,7 @@
 use Rattle.std.proofs.Common.{◌≡◌, ◌+◌, replicate}
 use Rattle.ec_model.specs.HostCalls.{Waited}
 use Rattle.ec_wire.specs.Calls.{Made}
-use Rattle.bus_lines.proofs.calls.wait_times.Given as goal
+use Rattle.bus_lines.proofs.lines.wait_times.Given as goal
 
 -- so many waits were made
 abbrev pub invariant-loop-turn : goal.invariant-loop-turn

@@ -1,31 +1,11 @@
-// Calls of the host, one after the other.
-ghost use Rattle.std.specs.Prelude.{◌≡◌, ◌≤◌, ◌+◌, ◌*◌, [], length, replicate};
-ghost use Rattle.ec_model.specs.HostCalls.{Waited};
-ghost use Rattle.ec_wire.specs.Calls.{Made};
-ghost use Rattle.bus_lines.specs.Making.{Reserves, WritesPorts, ReadsPorts};
+// Calls of the host on the ports of LPC, one after the other.
+ghost use Rattle.std.specs.Prelude.{◌≡◌, ◌≤◌, ◌+◌, ◌*◌, [], length};
+ghost use Rattle.bus_lines.specs.Making.{WritesPorts, ReadsPorts};
 
-use bench_io::{LineText, PrintErr};
+use bench_io::LineText;
 use ec_model::Access;
 use ec_wire::Wire;
 use script_words::HexBytes;
-
-/// Makes room for so many calls.
-pub fn reserve<W: Wire>(w: &mut W, calls: usize) -> Result<(), PrintErr>
-    ensures { Reserves result calls (W.view w.old) (W.view w.new) }
-{
-    w.reserve(calls)?;
-    Ok(())
-}
-
-/// Waits so often.
-pub fn wait_times<W: Wire>(w: &mut W, count: u32)
-    requires { count ≤ (W.view w.old).spare }
-    ensures { Made (replicate count Waited) (W.view w.old) (W.view w.new) }
-{
-    for _turn in 0..count {
-        w.wait();
-    }
-}
 
 /// Writes the bytes to the ports from this one on.
 pub fn write_in_row<W: Wire>(w: &mut W, port: u16, bytes: &HexBytes<'_>)

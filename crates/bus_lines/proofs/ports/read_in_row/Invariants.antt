@@ -2,7 +2,7 @@ use Rattle.std.proofs.Common.{◌≡◌, ◌+◌, ◌*◌, ℕ, List, length}
 use Rattle.hex.specs.Hex.{encode_lower}
 use Rattle.ec_model.specs.Heard.{port_reads}
 use Rattle.ec_wire.specs.Calls.{Made}
-use Rattle.bus_lines.proofs.calls.read_in_row.Given as goal
+use Rattle.bus_lines.proofs.ports.read_in_row.Given as goal
 
 -- the first bytes were read
 abbrev pub invariant-loop-place : goal.invariant-loop-place

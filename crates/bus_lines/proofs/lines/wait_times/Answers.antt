@@ -2,7 +2,7 @@ use Rattle.std.proofs.Common.{arith}
 use Rattle.ec_model.specs.HostCalls.{Waited}
 use Rattle.ec_wire.proofs.Growth.{made-then, made-as, made-wait, made-room}
 use Rattle.bus_lines.proofs.Rows.{replicate-more}
-use Rattle.bus_lines.proofs.calls.wait_times.Goals as goal
+use Rattle.bus_lines.proofs.lines.wait_times.Goals as goal
 
 pub loop-turn-preserved : goal.loop-turn-preserved
 loop-turn-preserved g c =

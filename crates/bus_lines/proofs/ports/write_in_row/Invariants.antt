@@ -1,0 +1,13 @@
+use Rattle.std.proofs.Common.{◌≡◌, ◌+◌, ℕ, List, length, take}
+use Rattle.ec_model.specs.Heard.{port_writes}
+use Rattle.ec_wire.specs.Calls.{Made}
+use Rattle.bus_lines.proofs.ports.write_in_row.Given as goal
+
+-- the first bytes were written
+abbrev pub invariant-loop-place : goal.invariant-loop-place
+invariant-loop-place g l = record {
+  room : (g.W.Wire.view l.w).spare + l.place ≡ (g.W.Wire.view l.fn.w).spare;
+  gots : List ℕ;
+  each : length gots ≡ l.place;
+  made : Made (port_writes l.port (take l.place l.bytes) gots) (g.W.Wire.view l.fn.w) (g.W.Wire.view l.w);
+}
