@@ -1,7 +1,7 @@
 // The whole reading of the words.
 ghost use Rattle.std.specs.Prelude.{◌≡◌, ◌↔◌, ℕ, List, Err, IfOk, IsTrue};
 ghost use Rattle.bench_words.specs.Words.{InGrammar, SpellOnce, Spells};
-ghost use Rattle.bench_words.specs.declared.command_line.WordsErr.TheVariants.{BadWords};
+ghost use Rattle.bench_words.specs.declared.command_line.WordsErr.TheVariants.{BadWords, NoMemory};
 
 use crate::Word;
 use crate::parsing::options_of;
@@ -32,6 +32,7 @@ pub enum WordsErr {
 pub fn read<'a>(alloc: Global, words: &'a [Word]) -> Result<Words<'a>, WordsErr>
     ensures ok { IfOk result (λ read. Spells words.now read.flash.now read.bus read.pin) }
     ensures outside { (result ≡ Err BadWords) ↔ ¬ (InGrammar words.now) }
+    ensures inside { result ≡ Err NoMemory → InGrammar words.now }
 {
     match flash_of(words) {
         None => Err(WordsErr::BadWords),

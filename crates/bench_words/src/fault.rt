@@ -7,10 +7,10 @@ use crate::reading::{are_of_two, first_choice, flash_of};
 use script_words::is_word;
 use thiserror::Error;
 
-/// What a word should have been. Each text fits before " was expected".
+/// What a word should have been. Each text fits behind "not ".
 #[derive(Clone, Copy, Debug, PartialEq, Eq, Error)]
 pub enum Expected {
-    #[error("FLASH, a path in UTF-8 that does not begin with a hyphen,")]
+    #[error("a flash file, whose path is UTF-8 and does not begin with a hyphen")]
     Flash,
     #[error("--bus or --pin")]
     Option,
@@ -24,7 +24,7 @@ pub enum Expected {
 
 /// The first fault of words.
 #[derive(Clone, Copy, Debug, PartialEq, Eq, Error)]
-#[error("word {word}: {expected} was expected")]
+#[error("word {word} is not {expected}")]
 pub struct WordFault {
     /// The word that is at fault, counted from 1; one past the last where a word is missing.
     pub word: usize,

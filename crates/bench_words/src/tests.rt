@@ -105,5 +105,5 @@ fn a_fault_is_said(rt: HostRuntime) {
         expected: Expected::Bus,
     };
     let said = format!(in rt.alloc(); "{fault}").expect(&rt, "memory");
-    assert_eq!(rt; said.as_str(), "word 3: lpc, i2c or spi was expected");
+    assert_eq!(rt; said.as_str(), "word 3 is not lpc, i2c or spi");
 }

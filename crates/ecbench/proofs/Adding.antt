@@ -2,7 +2,6 @@
 use Rattle.std.proofs.Common.{◌≡◌, refl, sym, ap, ◌∙◌, subst, ℕ, Bool, List, [], ◌∷◌, codes, inl, inr, Option, Result, Ok, Err}
 use Rattle.ec_types.specs.Tables.{packet_limit}
 use Rattle.ec_types.specs.declared.bus.BusKind.{BusKind}
-use Rattle.ec_types.specs.declared.bus.BusKind.TheVariants.{Lpc}
 use Rattle.ec_model.specs.declared.event.Event.{Event}
 use Rattle.ec_model.specs.declared.event.WorldEvent.{WorldEvent}
 use Rattle.ec_model.specs.declared.event.Entry.{Entry}
@@ -35,19 +34,19 @@ pub extends-none : (view : WireView) → Extends [] view view
 extends-none view = extends-nil view.spare view
 
 -- a line that was done: its entries, and what they are
-pub record LineAdds (number : ℕ) (line text : List ℕ) (old new : WireView) : Type 0 where
+pub record LineAdds (kind : BusKind) (number : ℕ) (line text : List ℕ) (old new : WireView) : Type 0 where
   pub added : List Entry
   pub extends : Extends added old new
-  pub does : DoesDeed seen number old.on line added text new.on
+  pub does : DoesDeed (seen kind) number old.on line added text new.on
 
-carried-adds : (number : ℕ) (line text : List ℕ) (old new : WireView) → old.bus ≡ Lpc → old.armed ≡ [] → CarriesLine number line text old new → LineAdds number line text old new
-carried-adds number line text old new lpc disarmed carried =
+carried-adds : {kind : BusKind} (number : ℕ) (line text : List ℕ) (old new : WireView) → old.bus ≡ kind → old.armed ≡ [] → CarriesLine number line text old new → LineAdds kind number line text old new
+carried-adds {kind} number line text old new bus_is disarmed carried =
     let marked = carried.marked in
     let mark = marks-extends number old marked carried.marks in
     let tool = carried.carries.carried in
-    let bus : marked.bus ≡ Lpc = mark.bus ∙ lpc in
-    let asks : AsksEach (Hears Lpc) marked.on (commands_of (packet_limit Lpc) carried.tool) tool.added tool.end new.on =
-    subst (λ (kind : BusKind). AsksEach (Hears kind) marked.on (commands_of (packet_limit kind) carried.tool) tool.added tool.end new.on) bus tool.asks in
+    let bus : marked.bus ≡ kind = mark.bus ∙ bus_is in
+    let asks : AsksEach (Hears kind) marked.on (commands_of (packet_limit kind) carried.tool) tool.added tool.end new.on =
+    subst (λ (bus : BusKind). AsksEach (Hears bus) marked.on (commands_of (packet_limit bus) carried.tool) tool.added tool.end new.on) bus tool.asks in
     let quiet = tool.grows.quiet (mark.armed disarmed) in
     record {
       added = Mark number ∷ tool.added;
@@ -62,12 +61,12 @@ carried-adds number line text old new lpc disarmed carried =
         entries_are = refl;
         alone = quiet.no_event;
         unchanged = quiet.no_byte;
-        asks_each = subst (λ (on : Bool). AsksEach (Hears Lpc) on (commands_of (packet_limit Lpc) carried.tool) tool.added tool.end new.on) mark.on asks;
+        asks_each = subst (λ (on : Bool). AsksEach (Hears kind) on (commands_of (packet_limit kind) carried.tool) tool.added tool.end new.on) mark.on asks;
         said_is = tool.text_is;
       });
     }
 
-happened-adds : (number : ℕ) (line text : List ℕ) (old new : WireView) → HappensLine number line old new → text ≡ printed (codes "ok") → LineAdds number line text old new
+happened-adds : {kind : BusKind} (number : ℕ) (line text : List ℕ) (old new : WireView) → HappensLine number line old new → text ≡ printed (codes "ok") → LineAdds kind number line text old new
 happened-adds number line text old new happened said =
     let mark = marks-extends number old happened.marked happened.marks in
     let step = happened.adds.extends in
@@ -84,7 +83,7 @@ happened-adds number line text old new happened said =
       });
     }
 
-made-adds : (number : ℕ) (line text words : List ℕ) (calls : BusLine) (old new : WireView) → old.armed ≡ [] → deed_of line ≡ Ok (Makes calls) → MakesMarked number calls words old new → text ≡ printed words → LineAdds number line text old new
+made-adds : {kind : BusKind} (number : ℕ) (line text words : List ℕ) (calls : BusLine) (old new : WireView) → old.armed ≡ [] → deed_of line ≡ Ok (Makes calls) → MakesMarked number calls words old new → text ≡ printed words → LineAdds kind number line text old new
 made-adds number line text words calls old new disarmed wants behind said =
     let marked = behind.marked in
     let mark = marks-extends number old marked behind.marks in
@@ -110,10 +109,10 @@ made-adds number line text words calls old new disarmed wants behind said =
       });
     }
 
-pub line-adds : (number : ℕ) (line text : List ℕ) (old new : WireView) → old.bus ≡ Lpc → old.armed ≡ [] → DoesLine number line text old new → LineAdds number line text old new
-line-adds number line text old new lpc disarmed (Carried carries) = carried-adds number line text old new lpc disarmed carries
-line-adds number line text old new lpc disarmed (Happened happened said) = happened-adds number line text old new happened said
-line-adds number line text old new lpc disarmed (Made calls words wants makes said) = made-adds number line text words calls old new disarmed wants makes said
+pub line-adds : {kind : BusKind} (number : ℕ) (line text : List ℕ) (old new : WireView) → old.bus ≡ kind → old.armed ≡ [] → DoesLine number line text old new → LineAdds kind number line text old new
+line-adds {kind} number line text old new bus_is disarmed (Carried carries) = carried-adds number line text old new bus_is disarmed carries
+line-adds {kind} number line text old new bus_is disarmed (Happened happened said) = happened-adds number line text old new happened said
+line-adds {kind} number line text old new bus_is disarmed (Made calls words wants makes said) = made-adds number line text words calls old new disarmed wants makes said
 
 -- an event of the world, for a line that wants it
 pub event-line : (number : ℕ) (line : List ℕ) (happened : WorldEvent) (event : Event) (old new : WireView) → deed_of line ≡ Ok (Happens event) → ((other : Event) → IsEvent happened other → other ≡ event) → HappensMarked number happened old new → HappensLine number line old new

@@ -2,6 +2,7 @@
 use Rattle.std.proofs.Common.{◌≡◌, refl, ap, ◌∙◌, ℕ, Bool, true, false, List, [], ◌∷◌, Option, Some, None, Result, Ok, Err, is_ok, ◌&&◌, if◌then◌else◌}
 use Rattle.ec_types.specs.Tables.{packet_limit}
 use Rattle.ec_types.specs.declared.why.Why.{Why}
+use Rattle.ec_types.specs.declared.bus.BusKind.{BusKind}
 use Rattle.ec_model.specs.declared.event.Entry.TheVariants.{Step}
 use Rattle.ec_model.specs.declared.event.Event.{Event}
 use Rattle.ec_model.specs.declared.event.Event.TheVariants.{Access, Tick, Reset, Power as PowerEvent, Pin}
@@ -77,8 +78,8 @@ on-by (PowerEvent false) (On awake) on table same on_is = refl
 on-by (Pin pin) (On awake) on table same on_is = on_is
 
 -- an event of the world in which nothing fails
-pub event-ready : (event : Event) (on : Bool) (table last : Table) → Ready on table → IsRun table (Step event 0 0 0 Whole ∷ []) last → last ≡ (stepped table event).table → Ready (on_after_event event on) last
-event-ready event on table last ready run same =
+pub event-ready : {kind : BusKind} (event : Event) (on : Bool) (table last : Table) → Ready kind on table → IsRun table (Step event 0 0 0 Whole ∷ []) last → last ≡ (stepped table event).table → Ready kind (on_after_event event on) last
+event-ready {kind} event on table last ready run same =
     record {
       valid = run-valid table (Step event 0 0 0 Whole ∷ []) last ready.valid run;
       kind = run-kind table (Step event 0 0 0 Whole ∷ []) last ready.valid run ∙ ready.kind;

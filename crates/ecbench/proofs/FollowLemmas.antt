@@ -2,7 +2,7 @@
 use Rattle.std.proofs.Common.{◌≡◌, refl, sym, ap, ◌∙◌, subst, ℕ, Bool, true, false, inl, inr, List, [], ◌∷◌}
 use Rattle.std.specs.List.{list_any}
 use Rattle.ec_types.specs.Tables.{packet_limit}
-use Rattle.ec_types.specs.declared.bus.BusKind.TheVariants.{Lpc}
+use Rattle.ec_types.specs.declared.bus.BusKind.{BusKind}
 use Rattle.ec_model.specs.declared.event.Event.{Event}
 use Rattle.ec_model.specs.declared.event.Event.TheVariants.{Access, Tick, Reset, Power as PowerEvent, Pin}
 use Rattle.ec_model.specs.declared.event.Entry.{Entry}
@@ -88,8 +88,8 @@ run-power old [] new run = ap (λ (t : Table). is_on t.power) run
 run-power old (entry ∷ entries) new run = run-power run.0 entries new run.2 ∙ ap (on_after entries) (step-power old entry run.0 run.1)
 
 -- a controller is ready behind a run, whatever befell it
-pub run-ready : (on : Bool) (table : Table) (entries : List Entry) (last : Table) → Ready on table → IsRun table entries last → Ready (on_after entries on) last
-run-ready on table entries last ready run =
+pub run-ready : {kind : BusKind} (on : Bool) (table : Table) (entries : List Entry) (last : Table) → Ready kind on table → IsRun table entries last → Ready kind (on_after entries on) last
+run-ready {kind} on table entries last ready run =
     record {
       valid = run-valid table entries last ready.valid run;
       kind = run-kind table entries last ready.valid run ∙ ready.kind;
@@ -115,17 +115,18 @@ caused table asked entries ending last answers = by (list_any is_upset entries) 
   by false calm = answered-by table.power table asked entries ending last (answers calm)
 
 -- a command that followed
-record HasFollowed (table : Table) (asked : Asked) (entries : List Entry) (ending : Ending) (after : Bool) (last : Table) : Type 0 where
+record HasFollowed (kind : BusKind) (table : Table) (asked : Asked) (entries : List Entry) (ending : Ending) (after : Bool) (last : Table) : Type 0 where
   pub follows : Follows table asked entries ending last
-  pub ready : Ready after last
+  pub ready : Ready kind after last
 
-follows : (on : Bool) (table last : Table) (asked : Asked) (entries : List Entry) (ending : Ending) (after : Bool) → Ready on table → IsProper asked → Hears Lpc on asked entries ending after → IsRun table entries last → HasFollowed table asked entries ending after last
-follows on table last asked entries ending after ready proper hears run =
-    let next : Ready after last = subst (λ (o : Bool). Ready o last) (sym hears.on_is) (run-ready on table entries last ready run) in
-    let answers : IsUndisturbed entries → Answers table asked entries ending last = λ calm. (heard on table last asked entries ending after ready proper hears run calm).answers in
+follows : {kind : BusKind} (on : Bool) (table last : Table) (asked : Asked) (entries : List Entry) (ending : Ending) (after : Bool) → Ready kind on table → IsProper kind asked → Hears kind on asked entries ending after → IsRun table entries last → HasFollowed kind table asked entries ending after last
+follows {kind} on table last asked entries ending after ready proper hears run =
+    let next : Ready kind after last = subst (λ (o : Bool). Ready kind o last) (sym hears.on_is) (run-ready on table entries last ready run) in
+    let answers : IsUndisturbed entries → Answers table asked entries ending last = λ calm. (heard kind on table last asked entries ending after ready proper hears run calm).answers in
     record {
       follows = record {
-        hears = subst (λ (o : Bool). Hears Lpc (is_on table.power) asked entries ending o) (sym next.on_is) (subst (λ (o : Bool). Hears Lpc o asked entries ending after) (sym ready.on_is) hears);
+        hears = subst (λ (bus : BusKind). Hears bus (is_on table.power) asked entries ending (is_on last.power)) (sym ready.kind)
+            (subst (λ (o : Bool). Hears kind (is_on table.power) asked entries ending o) (sym next.on_is) (subst (λ (o : Bool). Hears kind o asked entries ending after) (sym ready.on_is) hears));
         run = run;
         answers = answers;
         caused = caused table asked entries ending last answers;
@@ -134,34 +135,34 @@ follows on table last asked entries ending after ready proper hears run =
     }
 
 -- some commands, each of which was a success
-record AllFollowed (table : Table) (commands : List Asked) (entries : List Entry) (bodies : List (List ℕ)) (after : Bool) (last : Table) : Type 0 where
+record AllFollowed (kind : BusKind) (table : Table) (commands : List Asked) (entries : List Entry) (bodies : List (List ℕ)) (after : Bool) (last : Table) : Type 0 where
   pub succeeded : AllSucceed Follows table commands entries bodies last
-  pub ready : Ready after last
+  pub ready : Ready kind after last
 
-all-followed : (on : Bool) (table last : Table) (commands : List Asked) (entries : List Entry) (bodies : List (List ℕ)) (after : Bool) → Ready on table → AreProper commands → AllSucceed (Hears Lpc) on commands entries bodies after → IsRun table entries last →
-    AllFollowed table commands entries bodies after last
-all-followed on table last [] entries bodies after ready proper (none, no_body, still) run =
+all-followed : {kind : BusKind} (on : Bool) (table last : Table) (commands : List Asked) (entries : List Entry) (bodies : List (List ℕ)) (after : Bool) → Ready kind on table → AreProper kind commands → AllSucceed (Hears kind) on commands entries bodies after → IsRun table entries last →
+    AllFollowed kind table commands entries bodies after last
+all-followed {kind} on table last [] entries bodies after ready proper (none, no_body, still) run =
     let same : last ≡ table = subst (λ (e : List Entry). IsRun table e last) none run in
-    record { succeeded = (none, no_body, same); ready = subst (λ (o : Bool). Ready o last) (sym still) (subst (λ (t : Table). Ready on t) (sym same) ready) }
-all-followed on table last (asked ∷ commands) entries bodies after ready proper (first, rest, body, others, middle, entries_are, bodies_are, hears, more) run =
+    record { succeeded = (none, no_body, same); ready = subst (λ (o : Bool). Ready kind o last) (sym still) (subst (λ (t : Table). Ready kind on t) (sym same) ready) }
+all-followed {kind} on table last (asked ∷ commands) entries bodies after ready proper (first, rest, body, others, middle, entries_are, bodies_are, hears, more) run =
     let split = run-split table last first rest (subst (λ (e : List Entry). IsRun table e last) entries_are run) in
     let here = follows on table split.0 asked first (Said 0 body) middle ready proper.0 hears split.1 in
     let behind = all-followed middle split.0 last commands rest others after here.ready proper.1 more split.2 in
     record { succeeded = (first, rest, body, others, split.0, entries_are, bodies_are, here.follows, behind.succeeded); ready = behind.ready }
 
 -- the commands of a line
-pub record EachFollowed (table : Table) (commands : List Asked) (entries : List Entry) (end : LineEnd) (after : Bool) (last : Table) : Type 0 where
+pub record EachFollowed (kind : BusKind) (table : Table) (commands : List Asked) (entries : List Entry) (end : LineEnd) (after : Bool) (last : Table) : Type 0 where
   pub asks : AsksEach Follows table commands entries end last
-  pub ready : Ready after last
+  pub ready : Ready kind after last
 
-pub each-followed : (on : Bool) (table last : Table) (commands : List Asked) (entries : List Entry) (end : LineEnd) (after : Bool) → Ready on table → AreProper commands → AsksEach (Hears Lpc) on commands entries end after → IsRun table entries last →
-    EachFollowed table commands entries end after last
-each-followed on table last commands entries (Succeeded bodies) after ready proper asks run =
+pub each-followed : {kind : BusKind} (on : Bool) (table last : Table) (commands : List Asked) (entries : List Entry) (end : LineEnd) (after : Bool) → Ready kind on table → AreProper kind commands → AsksEach (Hears kind) on commands entries end after → IsRun table entries last →
+    EachFollowed kind table commands entries end after last
+each-followed {kind} on table last commands entries (Succeeded bodies) after ready proper asks run =
     let all = all-followed on table last commands entries bodies after ready proper asks run in
     record { asks = all.succeeded; ready = all.ready }
-each-followed on table last commands entries (Stopped ending) after ready proper stops run =
+each-followed {kind} on table last commands entries (Stopped ending) after ready proper stops run =
     let split = run-split table last stops.first stops.last (subst (λ (e : List Entry). IsRun table e last) stops.entries_are run) in
-    let propers = proper-split stops.before stops.asked stops.after (subst AreProper stops.commands_are proper) in
+    let propers = proper-split kind stops.before stops.asked stops.after (subst (AreProper kind) stops.commands_are proper) in
     let front = all-followed on table split.0 stops.before stops.first stops.bodies stops.middle ready propers.0 stops.succeeded split.1 in
     let here = follows stops.middle split.0 last stops.asked stops.last ending after front.ready propers.1 stops.asks_last split.2 in
     record {

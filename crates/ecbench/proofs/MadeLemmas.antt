@@ -1,5 +1,6 @@
 -- Calls of the host where nothing disturbs them.
 use Rattle.std.proofs.Common.{◌≡◌, refl, sym, ap, ◌∙◌, subst, Bool, List, [], ◌∷◌, map}
+use Rattle.ec_types.specs.declared.bus.BusKind.{BusKind}
 use Rattle.ec_model.specs.declared.event.Entry.{Entry}
 use Rattle.ec_model.specs.declared.event.Event.TheVariants.{Access, Tick}
 use Rattle.ec_model.specs.HostCalls.{HostCall, Did, Waited, on_after}
@@ -24,12 +25,12 @@ lead-on (Did access byte ∷ calls) on table last on_is lead =
 lead-on (Waited ∷ calls) on table last on_is lead = lead-on calls on (stepped table Tick).table last (on-by Tick table.power on table refl on_is) lead
 
 -- calls that were made
-pub record MadeWhole (table : Table) (calls : List HostCall) (entries : List Entry) (after : Bool) (last : Table) : Type 0 where
+pub record MadeWhole (kind : BusKind) (table : Table) (calls : List HostCall) (entries : List Entry) (after : Bool) (last : Table) : Type 0 where
   pub makes : MakesWhole table calls entries last
-  pub ready : Ready after last
+  pub ready : Ready kind after last
 
-pub made-whole : (on : Bool) (table last : Table) (calls : List HostCall) (entries : List Entry) (after : Bool) → Ready on table → MakesSeen on calls entries after → IsRun table entries last → IsUndisturbed entries → MadeWhole table calls entries after last
-made-whole on table last calls entries after ready makes run calm =
+pub made-whole : {kind : BusKind} (on : Bool) (table last : Table) (calls : List HostCall) (entries : List Entry) (after : Bool) → Ready kind on table → MakesSeen on calls entries after → IsRun table entries last → IsUndisturbed entries → MadeWhole kind table calls entries after last
+made-whole {kind} on table last calls entries after ready makes run calm =
     let entries_are : entries ≡ map quiet_entry calls = determined entries makes.steps calm ∙ ap (λ (made : List HostCall). map quiet_entry made) makes.calls_are in
     let leads : CallsLead table calls last = subst (λ (made : List HostCall). CallsLead table made last) makes.calls_are (calm_lead table entries last calm run) in
     let still : on_after entries on ≡ on = ap (λ (e : List Entry). on_after e on) entries_are ∙ quiet-on calls on in

@@ -1,7 +1,8 @@
 -- A script behind the power-on.
 use Rattle.std.proofs.Common.{◌≡◌, refl, sym, ap, ◌∙◌, subst, ℕ, ◌≤◌, Bool, true, false, ◌||◌, List, [], ◌∷◌, ◌++◌, length, ◌⊎◌, inl, inr, Option, Some, None, arith}
 use Rattle.std.specs.Prelude.{option_map, IfSome, count_by}
-use Rattle.ec_types.specs.declared.bus.BusKind.TheVariants.{Lpc}
+use Rattle.ec_types.specs.declared.bus.BusKind.{BusKind}
+use Rattle.ec_types.specs.declared.bus.BusKind.TheVariants.{Lpc, I2c, Spi}
 use Rattle.ec_types.specs.declared.reset.ResetCause.TheVariants.{PowerOn}
 use Rattle.flash_dev.specs.Counts.{Rose}
 use Rattle.flash_dev.specs.Ranges.{is_flash_size}
@@ -26,7 +27,7 @@ use Rattle.ectool_lines.proofs.AnswerLemmas.{Ready}
 use Rattle.ecbench.specs.declared.run.Exit.{Exit}
 use Rattle.ecbench.specs.declared.run.Exit.TheVariants.{Done, BadWords, BadFlash, BadLine, SourceFault, SinkFault, NoMemory, ScriptTooLong}
 use Rattle.ecbench.specs.Scripts.{PlaysUpTo}
-use Rattle.ecbench.specs.Endings.{power_on, IsStarted, Begins, NothingHappened, Ends, StartsOn, StartsBooted, StartsFrom, followed, seen, undisturbed}
+use Rattle.ecbench.specs.Endings.{power_on, EndsOn, Begins, NothingHappened, StartsOn, StartsBooted, StartsFrom, followed, seen, undisturbed}
 use Rattle.ecbench.specs.Serving.{DoesNothing, PowersAndServes, Drives}
 use Rattle.ecbench.proofs.Undisturbed.{upto-whole}
 use Rattle.ecbench.proofs.Followed.{upto-follows}
@@ -70,15 +71,15 @@ begun-entries exit old new left rest before after empty served =
     ∙ ap (λ (entries : List Entry). entries ++ served.serves.own) (served.powers.adds.extends.entries ∙ ap (λ (entries : List Entry). entries ++ power_on served.powers.boot ∷ []) empty)
 
 -- as the host sees it
-begins-seen : (exit : Exit) (old new : WireView) (left rest before after : Option (List ℕ)) → old.entries ≡ [] → PowersAndServes exit old new left rest before after → Begins StartsOn seen exit left rest before after new.entries
-begins-seen exit old new left rest before after empty served =
+begins-seen : (pin : Bool) (exit : Exit) (old new : WireView) (left rest before after : Option (List ℕ)) → old.entries ≡ [] → PowersAndServes exit old new left rest before after → Begins (StartsOn old.bus pin) (seen old.bus) exit left rest before after new.entries
+begins-seen pin exit old new left rest before after empty served =
     record {
       boot = served.powers.boot;
       opened = served.powered.on;
       own = served.serves.own;
       starts_so = served.powers.on;
       entries_are = begun-entries exit old new left rest before after empty served;
-      plays = served.serves.plays;
+      plays = subst (λ (bus : BusKind). PlaysUpTo (seen bus) served.powered.on exit served.serves.own left rest before after) served.powers.adds.extends.bus served.serves.plays;
     }
 
 -- nothing happened
@@ -87,23 +88,23 @@ nothing-happened old new left rest before after empty nothing =
     record { unread = nothing.unread; unprinted = nothing.unprinted; no_entry = ap (λ (view : WireView). view.entries) nothing.same ∙ empty }
 
 -- what an exit says of a run, by what is said of one that began
-ends-drives : {State : Type 0} (starts : Hurt → State → Type 0) (life : Life State) (exit : Exit) (words : List (List ℕ)) (size : ℕ) (old new : WireView) (left rest before after : Option (List ℕ)) → IsStarted words size → old.entries ≡ [] →
-    Drives exit old new left rest before after → (PowersAndServes exit old new left rest before after → Begins starts life exit left rest before after new.entries) → Ends starts life exit words size left rest before after new.entries
-ends-drives starts life NoMemory words size old new left rest before after started empty (inl nothing) begins = (started, inl (nothing-happened old new left rest before after empty nothing))
-ends-drives starts life NoMemory words size old new left rest before after started empty (inr served) begins = (started, inr (begins served))
-ends-drives starts life Done words size old new left rest before after started empty drives begins = (started, begins drives)
-ends-drives starts life BadWords words size old new left rest before after started empty drives begins = absurd (begins drives).plays
-ends-drives starts life BadFlash words size old new left rest before after started empty drives begins = absurd (begins drives).plays
-ends-drives starts life (BadLine number reason) words size old new left rest before after started empty drives begins = (started, begins drives)
-ends-drives starts life SourceFault words size old new left rest before after started empty drives begins = (started, begins drives)
-ends-drives starts life SinkFault words size old new left rest before after started empty drives begins = (started, begins drives)
-ends-drives starts life ScriptTooLong words size old new left rest before after started empty drives begins = (started, begins drives)
+ends-drives : {State : Type 0} (starts : Hurt → State → Type 0) (life : Life State) (exit : Exit) (old new : WireView) (left rest before after : Option (List ℕ)) → old.entries ≡ [] →
+    Drives exit old new left rest before after → (PowersAndServes exit old new left rest before after → Begins starts life exit left rest before after new.entries) → EndsOn starts life exit left rest before after new.entries
+ends-drives starts life NoMemory old new left rest before after empty (inl nothing) begins = inl (nothing-happened old new left rest before after empty nothing)
+ends-drives starts life NoMemory old new left rest before after empty (inr served) begins = inr (begins served)
+ends-drives starts life Done old new left rest before after empty drives begins = begins drives
+ends-drives starts life BadWords old new left rest before after empty drives begins = begins drives
+ends-drives starts life BadFlash old new left rest before after empty drives begins = begins drives
+ends-drives starts life (BadLine number reason) old new left rest before after empty drives begins = begins drives
+ends-drives starts life SourceFault old new left rest before after empty drives begins = begins drives
+ends-drives starts life SinkFault old new left rest before after empty drives begins = begins drives
+ends-drives starts life ScriptTooLong old new left rest before after empty drives begins = begins drives
 
 -- what each exit says, as the host sees it
-pub drives-seen : (exit : Exit) (words : List (List ℕ)) (size : ℕ) (old new : WireView) (left rest before after : Option (List ℕ)) → IsStarted words size → old.entries ≡ [] → Drives exit old new left rest before after →
-    Ends StartsOn seen exit words size left rest before after new.entries
-drives-seen exit words size old new left rest before after started empty drives =
-    ends-drives StartsOn seen exit words size old new left rest before after started empty drives (begins-seen exit old new left rest before after empty)
+pub drives-seen : (pin : Bool) (exit : Exit) (old new : WireView) (left rest before after : Option (List ℕ)) → old.entries ≡ [] → Drives exit old new left rest before after →
+    EndsOn (StartsOn old.bus pin) (seen old.bus) exit left rest before after new.entries
+drives-seen pin exit old new left rest before after empty drives =
+    ends-drives (StartsOn old.bus pin) (seen old.bus) exit old new left rest before after empty drives (begins-seen pin exit old new left rest before after empty)
 
 -- where nothing failed, the boot read its flash
 boot-whole : (boot : Hurt) (faults later_faults last_faults cuts later_cuts last_cuts : ℕ) → RoseBy (count_by is_failed_entry (power_on boot ∷ [])) faults later_faults → RoseBy (count_by is_cut_entry (power_on boot ∷ [])) cuts later_cuts →
@@ -145,83 +146,91 @@ whole-by (entry ∷ entries) failed cut =
     ap (λ (first : Bool). first || list_any is_hurt entries) (hurt-none entry f.0 c.0) ∙ whole-by entries f.1 c.1
 
 -- the table that a boot leads to
-boot-table : (bytes : List ℕ) (powered : Table) → IsStep (off_table bytes true Lpc) (power_on Whole) powered → powered ≡ booted_table bytes true Lpc PowerOn false
-boot-table bytes powered boots = ap (λ (after : After). after.table) boots
+boot-table : (kind : BusKind) (pin : Bool) (bytes : List ℕ) (powered : Table) → IsStep (off_table bytes pin kind) (power_on Whole) powered → powered ≡ booted_table bytes pin kind PowerOn false
+boot-table kind pin bytes powered boots = ap (λ (after : After). after.table) boots
+
+-- a controller boots on its bus
+booted-kind : (kind : BusKind) (pin : Bool) (bytes : List ℕ) → (booted_table bytes pin kind PowerOn false).kind ≡ kind
+booted-kind Lpc pin bytes = refl
+booted-kind I2c pin bytes = refl
+booted-kind Spi pin bytes = refl
 
 -- the controller behind a boot is ready
-booted-ready : (bytes : List ℕ) → Valid (booted_table bytes true Lpc PowerOn false) → Ready true (booted_table bytes true Lpc PowerOn false)
-booted-ready bytes valid = record { valid = valid; kind = refl; on_is = refl }
+booted-ready : (kind : BusKind) (pin : Bool) (bytes : List ℕ) → Valid (booted_table bytes pin kind PowerOn false) → Ready kind true (booted_table bytes pin kind PowerOn false)
+booted-ready kind pin bytes valid = record { valid = valid; kind = booted-kind kind pin bytes; on_is = refl }
 
 -- and valid
-booted-valid : (bytes : List ℕ) (powered : Table) → is_flash_size (length bytes) ≡ true → IsStep (off_table bytes true Lpc) (power_on Whole) powered → Valid (booted_table bytes true Lpc PowerOn false)
-booted-valid bytes powered allowed boots =
-    let opening = off_table bytes true Lpc in
+booted-valid : (kind : BusKind) (pin : Bool) (bytes : List ℕ) (powered : Table) → is_flash_size (length bytes) ≡ true → IsStep (off_table bytes pin kind) (power_on Whole) powered → Valid (booted_table bytes pin kind PowerOn false)
+booted-valid kind pin bytes powered allowed boots =
+    let opening = off_table bytes pin kind in
     let valid_opening : Valid opening = record { size = allowed; power = tt } in
-    subst Valid (boot-table bytes powered boots) (step-valid opening (power_on Whole) powered valid_opening boots)
+    subst Valid (boot-table kind pin bytes powered boots) (step-valid opening (power_on Whole) powered valid_opening boots)
 
 -- where nothing disturbs it
-begins-undisturbed : (bytes : List ℕ) (exit : Exit) (old new : WireView) (left rest before after : Option (List ℕ)) → is_flash_size (length bytes) ≡ true → old.entries ≡ [] → old.table ≡ Some (off_table bytes true Lpc) → ¬ Rose old.faults new.faults → ¬ Rose old.cuts new.cuts →
-    PowersAndServes exit old new left rest before after → Begins (StartsBooted bytes) undisturbed exit left rest before after new.entries
-begins-undisturbed bytes exit old new left rest before after allowed empty told no_fault no_cut served =
+begins-undisturbed : (kind : BusKind) (pin : Bool) (bytes : List ℕ) (exit : Exit) (old new : WireView) (left rest before after : Option (List ℕ)) → is_flash_size (length bytes) ≡ true → old.entries ≡ [] → old.bus ≡ kind → old.table ≡ Some (off_table bytes pin kind) → ¬ Rose old.faults new.faults → ¬ Rose old.cuts new.cuts →
+    PowersAndServes exit old new left rest before after → Begins (StartsBooted bytes kind pin) (undisturbed kind) exit left rest before after new.entries
+begins-undisturbed kind pin bytes exit old new left rest before after allowed empty bus_is told no_fault no_cut served =
     let p = served.powers.adds.extends in
     let own = served.serves.own in
     let e = served.serves.extends in
     let boot : served.powers.boot ≡ Whole =
     boot-whole served.powers.boot old.faults served.powered.faults new.faults old.cuts served.powered.cuts new.cuts p.faults p.cuts e.faults.later e.cuts.later no_fault no_cut in
-    let passed : Passes (off_table bytes true Lpc) Whole own =
-    subst (λ (hurt : Hurt). Passes (off_table bytes true Lpc) hurt own) boot
-    (passes (off_table bytes true Lpc) served.powers.boot own served.powered.table new.table (subst (λ (table : Option Table). RunsAlong (power_on served.powers.boot ∷ []) table served.powered.table) told p.run) e.run) in
+    let passed : Passes (off_table bytes pin kind) Whole own =
+    subst (λ (hurt : Hurt). Passes (off_table bytes pin kind) hurt own) boot
+    (passes (off_table bytes pin kind) served.powers.boot own served.powered.table new.table (subst (λ (table : Option Table). RunsAlong (power_on served.powers.boot ∷ []) table served.powered.table) told p.run) e.run) in
     let failed : list_any is_failed_entry own ≡ false = none-any is_failed_entry own (none-rose _ _ _ e.faults (λ rose. no_fault (rose-since old.faults served.powered.faults new.faults p.faults.later rose))) in
     let cut : list_any is_cut_entry own ≡ false = none-any is_cut_entry own (none-rose _ _ _ e.cuts (λ rose. no_cut (rose-since old.cuts served.powered.cuts new.cuts p.cuts.later rose))) in
-    let booted_is = boot-table bytes passed.powered passed.boots in
+    let booted_is = boot-table kind pin bytes passed.powered passed.boots in
     record {
       boot = Whole;
-      opened = booted_table bytes true Lpc PowerOn false;
+      opened = booted_table bytes pin kind PowerOn false;
       own = own;
       starts_so = (refl, refl);
       entries_are = begun-entries exit old new left rest before after empty served ∙ ap (λ (hurt : Hurt). power_on hurt ∷ own) boot;
-      plays = upto-whole exit true (booted_table bytes true Lpc PowerOn false) passed.last own left rest before after (booted-ready bytes (booted-valid bytes passed.powered allowed passed.boots))
-          (subst (λ (on : Bool). PlaysUpTo seen on exit own left rest before after) served.powers.on served.serves.plays)
+      plays = upto-whole exit true (booted_table bytes pin kind PowerOn false) passed.last own left rest before after (booted-ready kind pin bytes (booted-valid kind pin bytes passed.powered allowed passed.boots))
+          (subst (λ (on : Bool). PlaysUpTo (seen kind) on exit own left rest before after) served.powers.on
+          (subst (λ (bus : BusKind). PlaysUpTo (seen bus) served.powered.on exit own left rest before after) (p.bus ∙ bus_is) served.serves.plays))
           (subst (λ (table : Table). IsRun table own passed.last) booted_is passed.runs) (whole-by own failed cut);
     }
 
 -- what each exit says, where nothing disturbs it
-pub drives-undisturbed : (held : Option (List ℕ)) (exit : Exit) (words : List (List ℕ)) (size : ℕ) (old new : WireView) (left rest before after : Option (List ℕ)) → IfSome held (λ bytes. is_flash_size (length bytes) ≡ true) → IsStarted words size → old.entries ≡ [] →
-    old.table ≡ option_map (λ bytes. off_table bytes true Lpc) held → ¬ Rose old.faults new.faults → ¬ Rose old.cuts new.cuts → Drives exit old new left rest before after →
-    IfSome held (λ bytes. Ends (StartsBooted bytes) undisturbed exit words size left rest before after new.entries)
-drives-undisturbed None exit words size old new left rest before after allowed started empty told no_fault no_cut drives = tt
-drives-undisturbed (Some bytes) exit words size old new left rest before after allowed started empty told no_fault no_cut drives =
-    ends-drives (StartsBooted bytes) undisturbed exit words size old new left rest before after started empty drives (begins-undisturbed bytes exit old new left rest before after allowed empty told no_fault no_cut)
+pub drives-undisturbed : (kind : BusKind) (pin : Bool) (held : Option (List ℕ)) (exit : Exit) (old new : WireView) (left rest before after : Option (List ℕ)) → IfSome held (λ bytes. is_flash_size (length bytes) ≡ true) → old.entries ≡ [] →
+    old.bus ≡ kind → old.table ≡ option_map (λ bytes. off_table bytes pin kind) held → ¬ Rose old.faults new.faults → ¬ Rose old.cuts new.cuts → Drives exit old new left rest before after →
+    IfSome held (λ bytes. EndsOn (StartsBooted bytes kind pin) (undisturbed kind) exit left rest before after new.entries)
+drives-undisturbed kind pin None exit old new left rest before after allowed empty bus_is told no_fault no_cut drives = tt
+drives-undisturbed kind pin (Some bytes) exit old new left rest before after allowed empty bus_is told no_fault no_cut drives =
+    ends-drives (StartsBooted bytes kind pin) (undisturbed kind) exit old new left rest before after empty drives (begins-undisturbed kind pin bytes exit old new left rest before after allowed empty bus_is told no_fault no_cut)
 
 -- the controller behind a power-on is ready, whatever failed in it
-boot-ready : (boot : Hurt) (bytes : List ℕ) (powered : Table) → is_flash_size (length bytes) ≡ true → IsStep (off_table bytes true Lpc) (power_on boot) powered → Ready true powered
-boot-ready Whole bytes powered allowed boots = run-ready false (off_table bytes true Lpc) (power_on Whole ∷ []) powered (record { valid = record { size = allowed; power = tt }; kind = refl; on_is = refl }) (powered, boots, refl)
-boot-ready Failed bytes powered allowed boots = run-ready false (off_table bytes true Lpc) (power_on Failed ∷ []) powered (record { valid = record { size = allowed; power = tt }; kind = refl; on_is = refl }) (powered, boots, refl)
-boot-ready Cut bytes powered allowed boots = absurd boots
+boot-ready : (kind : BusKind) (pin : Bool) (boot : Hurt) (bytes : List ℕ) (powered : Table) → is_flash_size (length bytes) ≡ true → IsStep (off_table bytes pin kind) (power_on boot) powered → Ready kind true powered
+boot-ready kind pin Whole bytes powered allowed boots = run-ready false (off_table bytes pin kind) (power_on Whole ∷ []) powered (record { valid = record { size = allowed; power = tt }; kind = refl; on_is = refl }) (powered, boots, refl)
+boot-ready kind pin Failed bytes powered allowed boots = run-ready false (off_table bytes pin kind) (power_on Failed ∷ []) powered (record { valid = record { size = allowed; power = tt }; kind = refl; on_is = refl }) (powered, boots, refl)
+boot-ready kind pin Cut bytes powered allowed boots = absurd boots
 
 -- whatever befalls it
-begins-followed : (bytes : List ℕ) (exit : Exit) (old new : WireView) (left rest before after : Option (List ℕ)) → is_flash_size (length bytes) ≡ true → old.entries ≡ [] → old.table ≡ Some (off_table bytes true Lpc) →
-    PowersAndServes exit old new left rest before after → Begins (StartsFrom bytes) followed exit left rest before after new.entries
-begins-followed bytes exit old new left rest before after allowed empty told served =
+begins-followed : (kind : BusKind) (pin : Bool) (bytes : List ℕ) (exit : Exit) (old new : WireView) (left rest before after : Option (List ℕ)) → is_flash_size (length bytes) ≡ true → old.entries ≡ [] → old.bus ≡ kind → old.table ≡ Some (off_table bytes pin kind) →
+    PowersAndServes exit old new left rest before after → Begins (StartsFrom bytes kind pin) (followed kind) exit left rest before after new.entries
+begins-followed kind pin bytes exit old new left rest before after allowed empty bus_is told served =
     let p = served.powers.adds.extends in
     let own = served.serves.own in
     let e = served.serves.extends in
-    let passed : Passes (off_table bytes true Lpc) served.powers.boot own =
-    passes (off_table bytes true Lpc) served.powers.boot own served.powered.table new.table (subst (λ (table : Option Table). RunsAlong (power_on served.powers.boot ∷ []) table served.powered.table) told p.run) e.run in
+    let passed : Passes (off_table bytes pin kind) served.powers.boot own =
+    passes (off_table bytes pin kind) served.powers.boot own served.powered.table new.table (subst (λ (table : Option Table). RunsAlong (power_on served.powers.boot ∷ []) table served.powered.table) told p.run) e.run in
     record {
       boot = served.powers.boot;
       opened = passed.powered;
       own = own;
       starts_so = passed.boots;
       entries_are = begun-entries exit old new left rest before after empty served;
-      plays = upto-follows exit true passed.powered passed.last own left rest before after (boot-ready served.powers.boot bytes passed.powered allowed passed.boots)
-          (subst (λ (on : Bool). PlaysUpTo seen on exit own left rest before after) served.powers.on served.serves.plays) passed.runs;
+      plays = upto-follows exit true passed.powered passed.last own left rest before after (boot-ready kind pin served.powers.boot bytes passed.powered allowed passed.boots)
+          (subst (λ (on : Bool). PlaysUpTo (seen kind) on exit own left rest before after) served.powers.on
+          (subst (λ (bus : BusKind). PlaysUpTo (seen bus) served.powered.on exit own left rest before after) (p.bus ∙ bus_is) served.serves.plays)) passed.runs;
     }
 
 -- what each exit says, whatever befalls it
-pub drives-followed : (held : Option (List ℕ)) (exit : Exit) (words : List (List ℕ)) (size : ℕ) (old new : WireView) (left rest before after : Option (List ℕ)) → IfSome held (λ bytes. is_flash_size (length bytes) ≡ true) → IsStarted words size → old.entries ≡ [] →
-    old.table ≡ option_map (λ bytes. off_table bytes true Lpc) held → Drives exit old new left rest before after →
-    IfSome held (λ bytes. Ends (StartsFrom bytes) followed exit words size left rest before after new.entries)
-drives-followed None exit words size old new left rest before after allowed started empty told drives = tt
-drives-followed (Some bytes) exit words size old new left rest before after allowed started empty told drives =
-    ends-drives (StartsFrom bytes) followed exit words size old new left rest before after started empty drives (begins-followed bytes exit old new left rest before after allowed empty told)
+pub drives-followed : (kind : BusKind) (pin : Bool) (held : Option (List ℕ)) (exit : Exit) (old new : WireView) (left rest before after : Option (List ℕ)) → IfSome held (λ bytes. is_flash_size (length bytes) ≡ true) → old.entries ≡ [] →
+    old.bus ≡ kind → old.table ≡ option_map (λ bytes. off_table bytes pin kind) held → Drives exit old new left rest before after →
+    IfSome held (λ bytes. EndsOn (StartsFrom bytes kind pin) (followed kind) exit left rest before after new.entries)
+drives-followed kind pin None exit old new left rest before after allowed empty bus_is told drives = tt
+drives-followed kind pin (Some bytes) exit old new left rest before after allowed empty bus_is told drives =
+    ends-drives (StartsFrom bytes kind pin) (followed kind) exit old new left rest before after empty drives (begins-followed kind pin bytes exit old new left rest before after allowed empty bus_is told)

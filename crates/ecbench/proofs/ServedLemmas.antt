@@ -62,7 +62,7 @@ appends-then first second (Some old) None new once again = absurd once
 appends-then first second (Some old) (Some middle) None once again = again
 appends-then first second (Some old) (Some middle) (Some new) once again = again ∙ ap (λ (front : List ℕ). front ++ second) once ∙ append_assoc old first second
 
-appends-nothing : (written : Option (List ℕ)) → Appends [] written written
+pub appends-nothing : (written : Option (List ℕ)) → Appends [] written written
 appends-nothing None = tt
 appends-nothing (Some written) = sym (append-nil written)
 
@@ -79,7 +79,7 @@ pub record Served (number : ℕ) (opened now : WireView) (reader : ReaderView) (
   pub own : List Entry
   pub extends : Extends own opened now
   pub text : List ℕ
-  pub done : AreDone seen 1 opened.on (map without_return raws) own text now.on
+  pub done : AreDone (seen opened.bus) 1 opened.on (map without_return raws) own text now.on
   pub printed : Appends text before after
 
 -- nothing was read yet
@@ -126,7 +126,7 @@ serves-failed number opened now reader after_reader left rest more before after 
         record {
           text = served.text;
           new = now.on;
-          done = subst (λ (ls : List (List ℕ)). AreDone seen 1 opened.on ls served.own served.text now.on) (sym lines) served.done;
+          done = subst (λ (ls : List (List ℕ)). AreDone (seen opened.bus) 1 opened.on ls served.own served.text now.on) (sym lines) served.done;
           printed = served.printed;
         },
       );
@@ -158,7 +158,7 @@ serves-end number opened now reader after_reader left rest more before after ser
         record {
           text = served.text;
           new = now.on;
-          done = subst (λ (ls : List (List ℕ)). AreDone seen 1 opened.on ls served.own served.text now.on) (sym lines_are) served.done;
+          done = subst (λ (ls : List (List ℕ)). AreDone (seen opened.bus) 1 opened.on ls served.own served.text now.on) (sym lines_are) served.done;
           printed = served.printed;
         },
       );
@@ -207,14 +207,14 @@ serves-full number opened now reader after_reader left rest more before after se
         record {
           text = served.text;
           new = now.on;
-          done = subst (λ (ls : List (List ℕ)). AreDone seen 1 opened.on ls served.own served.text now.on) (sym lines_are) served.done;
+          done = subst (λ (ls : List (List ℕ)). AreDone (seen opened.bus) 1 opened.on ls served.own served.text now.on) (sym lines_are) served.done;
           printed = served.printed;
         },
       );
     }
 
 -- what was done before a line
-abbrev pub before-line : (number : ℕ) (opened now : WireView) (reader : ReaderView) (left rest before after : Option (List ℕ)) → (served : Served number opened now reader left rest before after) → Plays seen opened.on (map without_return served.raws) served.own before after
+abbrev pub before-line : (number : ℕ) (opened now : WireView) (reader : ReaderView) (left rest before after : Option (List ℕ)) → (served : Served number opened now reader left rest before after) → Plays (seen opened.bus) opened.on (map without_return served.raws) served.own before after
 before-line number opened now reader left rest before after served = record { text = served.text; new = now.on; done = served.done; printed = served.printed }
 
 -- a test and one that does not hold

@@ -2,7 +2,7 @@
 use Rattle.std.specs.Prelude.{◌≡◌, ℕ, ◌+◌, List, [], ◌∷◌, ◌++◌, codes, IsFalse, Result, Ok, Err}
 use Rattle.std.specs.List.{list_any}
 use Rattle.ec_types.specs.Tables.{packet_limit}
-use Rattle.ec_types.specs.declared.bus.BusKind.TheVariants.{Lpc}
+use Rattle.ec_types.specs.declared.bus.BusKind.{BusKind}
 use Rattle.ec_types.specs.declared.why.Why.{Why}
 use Rattle.ec_model.specs.declared.event.Event.{Event}
 use Rattle.ec_model.specs.declared.event.Event.TheVariants as event
@@ -45,9 +45,10 @@ deed_by text (line.Bus calls) = Ok (Makes calls)
 abbrev pub deed_of : List ℕ → Result Deed Why
 deed_of text = line_of text >>= λ read. deed_by text read
 
--- How a controller lives, by a state of it: how one command goes, how an event of the world does, and how calls of the host
+-- How a controller lives on a bus, by a state of it: how one command goes, how an event of the world does, and how calls of the host
 -- do. So the same words tell what the host sees of any controller, and what one that nothing disturbs does.
 pub record Life (State : Type 0) : Type 1 where
+  pub bus : BusKind
   pub asks : State → Asked → List Entry → Ending → State → Type 0
   pub happens : State → Event → Hurt → State → Type 0
   pub makes : State → List HostCall → List Entry → State → Type 0
@@ -64,7 +65,7 @@ pub record CarriesOut {State : Type 0} (life : Life State)
   pub entries_are : entries ≡ Mark number ∷ own
   pub alone : IsFalse (list_any is_world own)
   pub unchanged : IsFalse (list_any is_changed own)
-  pub asks_each : AsksEach life.asks old (commands_of (packet_limit Lpc) tool) own end new
+  pub asks_each : AsksEach life.asks old (commands_of (packet_limit life.bus) tool) own end new
   pub said_is : said ≡ printed (line_text tool end)
 
 -- a line's event of the world happened: its mark, its event, and `ok`

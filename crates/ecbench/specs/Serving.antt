@@ -139,7 +139,7 @@ ServesCalls (Err other) number calls old new before after = ⊥
 pub record Serves (exit : Exit) (old new : WireView) (left rest before after : Option (List ℕ)) : Type 0 where
   pub own : List Entry
   pub extends : Extends own old new
-  pub plays : PlaysUpTo seen old.on exit own left rest before after
+  pub plays : PlaysUpTo (seen old.bus) old.on exit own left rest before after
 
 -- nothing was done
 pub record DoesNothing (old new : WireView) (left rest before after : Option (List ℕ)) : Type 0 where

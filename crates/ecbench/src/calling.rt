@@ -1,7 +1,6 @@
 // Lines that call the bus itself.
 ghost use Rattle.std.specs.Prelude.{◌≡◌, ◌≤◌};
 ghost use Rattle.flash_dev.specs.Counts.{Rose};
-ghost use Rattle.ec_types.specs.declared.bus.BusKind.TheVariants.{Lpc as LpcKind};
 ghost use Rattle.bench_wire.specs.BenchView.{wire_view};
 ghost use Rattle.script_lines.specs.Lines.{IsInRange};
 ghost use Rattle.ecbench.specs.Serving.{ServesCalls};
@@ -10,21 +9,21 @@ use crate::marking::begin;
 use crate::run::Exit;
 use bench_io::{LineText, Sink};
 use bench_wire::Bench;
-use bus_lpc::Lpc;
+use ec_wire::Bus;
 use flash_dev::FlashDev;
 use script_lines::BusLine;
 
 /// The line's calls are made, and its text is printed.
-pub fn serve_calls<F: FlashDev, K: Sink>(
-    bench: &mut Bench<Lpc, F>,
+pub fn serve_calls<B: Bus + Drop, F: FlashDev, K: Sink>(
+    bench: &mut Bench<B, F>,
     number: u32,
     line: &BusLine<'_>,
     text: &mut LineText,
     sink: &mut K,
 ) -> Result<(), Exit>
     requires { IsInRange line.now }
-    ensures serves { ServesCalls result number line.now (wire_view LpcKind bench.old)
-        (wire_view LpcKind bench.new) (K.written sink.old) (K.written sink.new) }
+    ensures serves { ServesCalls result number line.now (wire_view B.bus bench.old)
+        (wire_view B.bus bench.new) (K.written sink.old) (K.written sink.new) }
     ensures sink_fault { result ≡ Err Exit.SinkFault → Rose (K.faults sink.old) (K.faults sink.new) }
     ensures later { K.faults sink.old ≤ K.faults sink.new }
 {

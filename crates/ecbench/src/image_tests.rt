@@ -1,7 +1,7 @@
 // The hash by ticks and the two images, in whole runs: the bytes that are read and printed, which no clause counts.
 use crate::run::{Exit, run};
-use crate::word::Word;
 use bench_io::{MemSink, MemSource};
+use bench_words::Word;
 use flash_dev::MemFlash;
 use std::process::Abort;
 use std::test::Fail;

@@ -6,6 +6,8 @@
 //! what went wrong, of which no clause speaks.
 #![tactic(auto)]
 
+#[cfg(test)]
+mod bus_tests;
 mod calling;
 #[cfg(test)]
 mod image_tests;
@@ -15,9 +17,9 @@ mod serving;
 mod telling;
 #[cfg(test)]
 mod tests;
-mod word;
 
 use bench_io::{FileFlash, StdSink, StdSource};
+use bench_words::Word;
 use run::{Exit, run};
 use std::alloc::Global;
 use std::env::{self, Args};
@@ -26,7 +28,6 @@ use std::fs::{self, File};
 use std::io;
 use std::process::ExitCode;
 use telling::{FaultyLine, FaultyWords, fault_of};
-use word::Word;
 
 /// The exit status where the flash file cannot be opened.
 const NOT_OPENED: u8 = 1;
@@ -105,7 +106,9 @@ fn told(rt: &HostRuntime, exit: Exit) -> ExitCode {
 
 // The status of words that are not the command's: what is wrong with them is told, and the usage.
 fn told_usage<D: Display>(rt: &HostRuntime, wrong: &D) -> ExitCode {
-    let _ = eprintln!(rt; "ecbench: {wrong}\nusage: ecbench FLASH < SCRIPT");
+    let _ = eprintln!(rt;
+        "ecbench: {wrong}\nusage: ecbench FLASH [--bus lpc|i2c|spi] [--pin on|off] < SCRIPT"
+    );
     ExitCode::from(Exit::BadWords.status())
 }
 

@@ -1,21 +1,34 @@
 // The top call: a script is carried out on a controller, and what happened is told.
-ghost use Rattle.std.specs.Prelude.{◌≡◌, [], IfSome, count_by};
+ghost use Rattle.std.specs.Prelude.{◌≡◌, [], IfSome, IsTrue, count_by};
 ghost use Rattle.flash_dev.specs.Counts.{Rose};
 ghost use Rattle.ec_model.specs.Upset.{is_cut_entry};
 ghost use Rattle.ec_wire.specs.Calls.{RoseBy, is_failed_entry};
-ghost use Rattle.ecbench.specs.Endings.{EndsAsSeen, EndsUndisturbed, EndsFollowed, RunsTo, KeepsRo, GuardsRun, NothingFailed};
+ghost use Rattle.flash_dev.specs.Ranges.{is_flash_size};
+ghost use Rattle.ecbench.specs.Endings.{
+  EndsAsSeen,
+  EndsUndisturbed,
+  EndsFollowed,
+  WhereSpelled,
+  CarriesScript,
+  RunsTo,
+  KeepsRo,
+  GuardsRun,
+  NothingFailed,
+};
 ghost use Rattle.ecbench.specs.Statuses.{exit_status};
 ghost use Rattle.ecbench.specs.Serving.{exit_of};
 ghost use Rattle.ecbench.specs.declared.run.Exit.TheVariants as exits;
 
 use crate::serving::drive;
-use crate::word::{Word, are_words};
 use bench_io::{PrintErr, Sink, Source};
 use bench_wire::Bench;
+use bench_words::{Word, WordsErr};
+use bus_i2c::I2c;
 use bus_lpc::Lpc;
+use bus_spi::Spi;
 use ec_core::Ec;
-use ec_types::Why;
-use ec_wire::Journal;
+use ec_types::{BusKind, Why};
+use ec_wire::{Bus, Journal};
 use flash_dev::{FlashDev, Geometry};
 use line_reader::LineReader;
 use std::alloc::{AllocError, Global};
@@ -97,8 +110,8 @@ pub struct Ended<F> {
     pub reader: LineReader,
 }
 
-/// Carries out the script of the source, line by line, on a controller with this flash, which is off at first and has
-/// its write-protect pin asserted. The words are one, which names the flash file.
+/// Carries out the script of the source, line by line, on a controller with this flash, which is off at first. The words
+/// name the flash file, the bus, and whether the write-protect pin is asserted at first.
 pub fn run<F: FlashDev, S: Source, K: Sink>(
     alloc: Global,
     words: &[Word],
@@ -110,13 +123,15 @@ pub fn run<F: FlashDev, S: Source, K: Sink>(
     ensures ends { EndsAsSeen result.exit words.now (F.seen flash).extent (S.left source.old) (S.left source.new)
         (K.written sink.old) (K.written sink.new) result.journal.entries }
     // The journal is a run of the controller, from the flash as it came to the flash as it is handed back.
-    ensures run { RunsTo result.journal.entries (F.seen flash).held (F.seen result.flash).held }
-    // Guarded RO is handed back as it came, whatever failed, was torn or was sent.
-    ensures guard { KeepsRo result.journal.entries (F.seen flash).held (F.seen result.flash).held }
+    ensures run { WhereSpelled words.now (λ bus pin. RunsTo bus pin result.journal.entries (F.seen flash).held
+        (F.seen result.flash).held) }
+    // Guarded RO is handed back as it came, whatever failed, was torn or was sent, where the pin is asserted at first.
+    ensures guard { WhereSpelled words.now (λ bus pin. IsTrue pin → KeepsRo result.journal.entries (F.seen flash).held
+        (F.seen result.flash).held) }
     // Once RO is guarded and while the pin stays asserted, it stays so, byte for byte, and each boot ends with RO
     // running, locked where it was guarded: a law of the definitions, of the states that the run of this journal
     // passes.
-    ensures guarded { GuardsRun result.journal.entries (F.seen flash).held }
+    ensures guarded { WhereSpelled words.now (λ bus pin. GuardsRun bus pin result.journal.entries (F.seen flash).held) }
     // At most as many entries failed as the flash counted faults, and at most as many were cut as it counted cuts.
     ensures faults { RoseBy (count_by is_failed_entry result.journal.entries) (F.seen flash).faults
         (F.seen result.flash).faults }
@@ -139,13 +154,58 @@ pub fn run<F: FlashDev, S: Source, K: Sink>(
     ensures source_fault { result.exit ≡ Exit.SourceFault → Rose (S.faults source.old) (S.faults source.new) }
     ensures sink_fault { result.exit ≡ Exit.SinkFault → Rose (K.faults sink.old) (K.faults sink.new) }
 {
-    if !are_words(words) {
-        return refused(alloc, Exit::BadWords, flash);
-    }
+    let read = match bench_words::read(alloc, words) {
+        Ok(read) => read,
+        Err(WordsErr::BadWords) => return refused(alloc, Exit::BadWords, flash),
+        Err(WordsErr::NoMemory) => return refused(alloc, Exit::NoMemory, flash),
+    };
     let Some(geometry) = Geometry::new(flash.size()) else {
         return refused(alloc, Exit::BadFlash, flash);
     };
-    let mut bench: Bench<Lpc, F> = Bench::new(alloc, Ec::new(flash, geometry, true));
+    carry_by(alloc, flash, geometry, read.bus, read.pin, source, sink)
+}
+
+// Carries out the script on a controller on this bus.
+fn carry_by<F: FlashDev, S: Source, K: Sink>(
+    alloc: Global,
+    flash: F,
+    geometry: Geometry,
+    bus: BusKind,
+    pin: bool,
+    source: &mut S,
+    sink: &mut K,
+) -> Ended<F>
+    requires size { geometry ≡ (F.seen flash).extent }
+    requires allowed { IsTrue (is_flash_size (F.seen flash).extent) }
+    ensures carries { CarriesScript bus pin result.exit (F.seen flash) (F.seen result.flash) (S.left source.old)
+        (S.left source.new) (K.written sink.old) (K.written sink.new) result.journal.entries }
+    ensures source_fault { result.exit ≡ Exit.SourceFault → Rose (S.faults source.old) (S.faults source.new) }
+    ensures sink_fault { result.exit ≡ Exit.SinkFault → Rose (K.faults sink.old) (K.faults sink.new) }
+{
+    match bus {
+        BusKind::Lpc => carry_on::<Lpc, F, S, K>(alloc, flash, geometry, pin, source, sink),
+        BusKind::I2c => carry_on::<I2c, F, S, K>(alloc, flash, geometry, pin, source, sink),
+        BusKind::Spi => carry_on::<Spi, F, S, K>(alloc, flash, geometry, pin, source, sink),
+    }
+}
+
+// The same, on a bus that is known.
+fn carry_on<B: Bus + Drop, F: FlashDev, S: Source, K: Sink>(
+    alloc: Global,
+    flash: F,
+    geometry: Geometry,
+    pin: bool,
+    source: &mut S,
+    sink: &mut K,
+) -> Ended<F>
+    requires size { geometry ≡ (F.seen flash).extent }
+    requires allowed { IsTrue (is_flash_size (F.seen flash).extent) }
+    ensures carries { CarriesScript B.bus pin result.exit (F.seen flash) (F.seen result.flash) (S.left source.old)
+        (S.left source.new) (K.written sink.old) (K.written sink.new) result.journal.entries }
+    ensures source_fault { result.exit ≡ Exit.SourceFault → Rose (S.faults source.old) (S.faults source.new) }
+    ensures sink_fault { result.exit ≡ Exit.SinkFault → Rose (K.faults sink.old) (K.faults sink.new) }
+{
+    let mut bench: Bench<B, F> = Bench::new(alloc, Ec::new(flash, geometry, pin));
     let mut reader = LineReader::new();
     let exit = drive(&mut bench, &mut reader, source, sink);
     let (flash, journal) = bench.finish();

@@ -1,7 +1,6 @@
 // A script, served line by line.
 ghost use Rattle.std.specs.Prelude.{◌≡◌, ◌≤◌, ◌↔◌, false, IsTrue, IsFalse};
 ghost use Rattle.flash_dev.specs.Counts.{Rose};
-ghost use Rattle.ec_types.specs.declared.bus.BusKind.TheVariants.{Lpc as LpcKind};
 ghost use Rattle.bench_wire.specs.BenchView.{wire_view};
 ghost use Rattle.bench_wire.specs.Adding.{is_byte};
 ghost use Rattle.script_lines.specs.Lines.{line_of};
@@ -14,10 +13,9 @@ use crate::marking::begin;
 use crate::run::Exit;
 use bench_io::{Sink, Source, print};
 use bench_wire::Bench;
-use bus_lpc::Lpc;
 use ec_model::WorldEvent;
 use ec_types::Why;
-use ec_wire::Wire;
+use ec_wire::{Bus, Wire};
 use ectool_lines::{Buffers, parse_checked, run};
 use flash_dev::{Failed, FlashDev};
 use line_reader::{LineReader, Next};
@@ -28,15 +26,15 @@ use script_words::Fault;
 const MOST_LINES: u32 = 16_777_217;
 
 /// Makes room in the journal for the power-on, and serves the script.
-pub fn drive<F: FlashDev, S: Source, K: Sink>(
-    bench: &mut Bench<Lpc, F>,
+pub fn drive<B: Bus + Drop, F: FlashDev, S: Source, K: Sink>(
+    bench: &mut Bench<B, F>,
     reader: &mut LineReader,
     source: &mut S,
     sink: &mut K,
 ) -> Exit
     requires off { bench.old.controller.on ≡ false }
     requires fresh { reader.old ≡ fresh_reader }
-    ensures drives { Drives result (wire_view LpcKind bench.old) (wire_view LpcKind bench.new) (S.left source.old)
+    ensures drives { Drives result (wire_view B.bus bench.old) (wire_view B.bus bench.new) (S.left source.old)
         (S.left source.new) (K.written sink.old) (K.written sink.new) }
     ensures source_fault { result ≡ Exit.SourceFault → Rose (S.faults source.old) (S.faults source.new) }
     ensures sink_fault { result ≡ Exit.SinkFault → Rose (K.faults sink.old) (K.faults sink.new) }
@@ -50,23 +48,23 @@ pub fn drive<F: FlashDev, S: Source, K: Sink>(
 }
 
 // Powers the controller on.
-fn power_on<F: FlashDev>(bench: &mut Bench<Lpc, F>)
+fn power_on<B: Bus + Drop, F: FlashDev>(bench: &mut Bench<B, F>)
     requires room { 1 ≤ bench.old.spare }
     requires off { bench.old.controller.on ≡ false }
-    ensures { PowersOn (wire_view LpcKind bench.old) (wire_view LpcKind bench.new) }
+    ensures { PowersOn (wire_view B.bus bench.old) (wire_view B.bus bench.new) }
 {
     bench.world(WorldEvent::Power { on: true });
 }
 
 // Reads the script line by line, and carries out each line before the next one is read.
-fn serve<F: FlashDev, S: Source, K: Sink>(
-    bench: &mut Bench<Lpc, F>,
+fn serve<B: Bus + Drop, F: FlashDev, S: Source, K: Sink>(
+    bench: &mut Bench<B, F>,
     reader: &mut LineReader,
     source: &mut S,
     sink: &mut K,
 ) -> Exit
     requires { reader.old ≡ fresh_reader }
-    ensures serves { Serves result (wire_view LpcKind bench.old) (wire_view LpcKind bench.new) (S.left source.old)
+    ensures serves { Serves result (wire_view B.bus bench.old) (wire_view B.bus bench.new) (S.left source.old)
         (S.left source.new) (K.written sink.old) (K.written sink.new) }
     ensures source_fault { result ≡ Exit.SourceFault → Rose (S.faults source.old) (S.faults source.new) }
     ensures sink_fault { result ≡ Exit.SinkFault → Rose (K.faults sink.old) (K.faults sink.new) }
@@ -113,14 +111,14 @@ fn exit_at(next: Next, number: u32) -> Option<Exit>
 }
 
 // Does a line, passes over one that does nothing, or refuses one that is outside the grammar.
-fn serve_line<F: FlashDev, K: Sink>(
-    bench: &mut Bench<Lpc, F>,
+fn serve_line<B: Bus + Drop, F: FlashDev, K: Sink>(
+    bench: &mut Bench<B, F>,
     number: u32,
     line: &[u8],
     buffers: &mut Buffers,
     sink: &mut K,
 ) -> Result<(), Exit>
-    ensures serves { ServesLine result number line.now (wire_view LpcKind bench.old) (wire_view LpcKind bench.new)
+    ensures serves { ServesLine result number line.now (wire_view B.bus bench.old) (wire_view B.bus bench.new)
         (K.written sink.old) (K.written sink.new) }
     ensures sink_fault { result ≡ Err Exit.SinkFault → Rose (K.faults sink.old) (K.faults sink.new) }
     ensures later { K.faults sink.old ≤ K.faults sink.new }
@@ -147,15 +145,15 @@ fn bad_line(number: u32, fault: Fault) -> Exit
 }
 
 // Carries out a line that sends commands, or refuses one that is outside the grammar.
-fn serve_tool<F: FlashDev, K: Sink>(
-    bench: &mut Bench<Lpc, F>,
+fn serve_tool<B: Bus + Drop, F: FlashDev, K: Sink>(
+    bench: &mut Bench<B, F>,
     number: u32,
     line: &[u8],
     buffers: &mut Buffers,
     sink: &mut K,
 ) -> Result<(), Exit>
     requires { line_of line.now ≡ Ok Line.Tool }
-    ensures serves { ServesLine result number line.now (wire_view LpcKind bench.old) (wire_view LpcKind bench.new)
+    ensures serves { ServesLine result number line.now (wire_view B.bus bench.old) (wire_view B.bus bench.new)
         (K.written sink.old) (K.written sink.new) }
     ensures sink_fault { result ≡ Err Exit.SinkFault → Rose (K.faults sink.old) (K.faults sink.new) }
     ensures later { K.faults sink.old ≤ K.faults sink.new }
@@ -170,14 +168,14 @@ fn serve_tool<F: FlashDev, K: Sink>(
 }
 
 // An event of the world happens, and `ok` is printed.
-fn serve_event<F: FlashDev, K: Sink>(
-    bench: &mut Bench<Lpc, F>,
+fn serve_event<B: Bus + Drop, F: FlashDev, K: Sink>(
+    bench: &mut Bench<B, F>,
     number: u32,
     happened: WorldEvent,
     sink: &mut K,
 ) -> Result<(), Exit>
     requires { IsFalse (is_byte happened) }
-    ensures serves { ServesEvent result number happened (wire_view LpcKind bench.old) (wire_view LpcKind bench.new)
+    ensures serves { ServesEvent result number happened (wire_view B.bus bench.old) (wire_view B.bus bench.new)
         (K.written sink.old) (K.written sink.new) }
     ensures sink_fault { result ≡ Err Exit.SinkFault → Rose (K.faults sink.old) (K.faults sink.new) }
     ensures later { K.faults sink.old ≤ K.faults sink.new }

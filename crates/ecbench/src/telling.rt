@@ -1,5 +1,5 @@
 // What is told on standard error, for people: where a line or a word is at fault, and what was expected there.
-use crate::word::Word;
+use bench_words::{Word, WordFault, fault_of as fault_of_words};
 use script_lines::Line;
 use script_words::{Fault, Wanted, is_unprintable, next_word};
 use std::fmt::{self, Formatter, Write};
@@ -66,24 +66,17 @@ pub struct FaultyWords<'a> {
 
 impl<'a> fmt::Display for FaultyWords<'a> {
     fn fmt<W: Write>(&self, f: &mut Formatter<W>) -> fmt::Result {
-        let Some(word) = self.words.first() else {
-            return write!(f, "there is no word, and one is expected: the flash file");
+        let Some(fault) = fault_of_words(self.words) else {
+            return write!(f, "the words are the command's");
         };
-        if !word.names_flash() {
-            let text = shown(word.as_bytes());
-            return write!(
-                f,
-                "word 1: `{text}` is empty or an option, and no flash file"
-            );
+        let WordFault { word, expected } = fault;
+        match self.words.get(word.saturating_sub(1)) {
+            Some(there) => {
+                let text = shown(there.as_bytes());
+                write!(f, "word {word}: `{text}` is not {expected}")
+            }
+            None => write!(f, "word {word}: there is none, and {expected} is expected"),
         }
-        if word.flash_path().is_none() {
-            return write!(f, "word 1 is not UTF-8");
-        }
-        let count = self.words.len();
-        write!(
-            f,
-            "there are {count} words, and one is expected: the flash file"
-        )
     }
 }
 

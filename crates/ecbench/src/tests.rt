@@ -4,8 +4,8 @@ ghost use Rattle.flash_dev.specs.Told.{untold_is_whole};
 
 use crate::run::{Exit, run};
 use crate::telling::{FaultyLine, FaultyWords, fault_of};
-use crate::word::Word;
 use bench_io::{MemSink, MemSource};
+use bench_words::Word;
 use ec_model::{Access, Entry, Event};
 use ec_types::Why;
 use flash_dev::{DevErr, Failed, FlashDev, MemFlash};
@@ -412,7 +412,7 @@ fn the_word_of_the_command_line_at_fault_is_told(rt: HostRuntime) -> Result<(), 
     let faulty = FaultyWords { words: &option };
     assert_eq!(rt;
         format!(in rt.alloc(); "{faulty}")?.as_str(),
-        "word 1: `-f` is empty or an option, and no flash file"
+        "word 1: `-f` is not a flash file, whose path is UTF-8 and does not begin with a hyphen"
     );
     Ok(())
 }

@@ -1,5 +1,6 @@
 -- Commands of a line, one after the other.
 use Rattle.std.proofs.Common.{◌≡◌, refl, sym, ap, ◌∙◌, subst, ℕ, zero, suc, ◌+◌, ◌-◌, ◌*◌, ◌/◌, ◌%◌, ◌^◌, ◌==◌, ◌<◌, ◌≤◌, Bool, true, false, ◌&&◌, List, [], ◌∷◌, ◌++◌, length, take, drop, append_assoc, append-nil, ◌⊎◌, inl, inr, arith}
+use Rattle.std.proofs.Math.Nat.{div-le_of_le-mul, div-mul-le_self, mul-le-mul_right, suc-mul}
 use Rattle.std.proofs.lemmas.Bool.{cases_lt}
 use Rattle.std.proofs.lemmas.Bool.Decides.{eqb_tells}
 use Rattle.ec_model.proofs.GuardSteps.{if_cases}
@@ -7,7 +8,7 @@ use Rattle.std.specs.Prelude.{replicate, IsTrue}
 use Rattle.std.proofs.lemmas.List.{length-take, length-append, length-replicate}
 use Rattle.ec_types.specs.Tables.{packet_limit}
 use Rattle.ec_types.specs.declared.bus.BusKind.{BusKind}
-use Rattle.ec_types.specs.declared.bus.BusKind.TheVariants.{Lpc}
+use Rattle.ec_types.specs.declared.bus.BusKind.TheVariants.{Lpc, I2c, Spi}
 use Rattle.ec_types.specs.LittleEndian.{u32_bytes}
 use Rattle.ec_model.specs.Bodies.{flash_write_ask, test_ask, vboot_hash_ask}
 use Rattle.ec_model.specs.InfoRows.{zero_padded}
@@ -24,6 +25,7 @@ use Rattle.ectool_lines.specs.declared.tool.Tool.{Tool}
 use Rattle.ectool_lines.specs.declared.tool.Tool.TheVariants.{Hello, Version, ChipInfo, CmdVersions, ProtoInfo, FlashInfo, RegionInfo, FlashRead, FlashWrite, FlashProtect, Hash, HashAbort, HashStart, HashRange, Sysinfo, Reboot, Test, Resend}
 use Rattle.ectool_lines.specs.Tools.{is_reboot, IsInRange}
 use Rattle.ectool_lines.specs.Requests.{Asked, packet_of, first_of, parts_of, count_of, image_offset, command_of, commands_of}
+use Rattle.ectool_lines.specs.Sending.{most_text}
 use Rattle.ectool_lines.specs.Texts.{Succeeded, Stopped, printed, replies_text, reply_text, closing_text, refusal_text}
 use Rattle.ectool_lines.specs.Asking.{AllSucceed, IsSuccess, StopsAt, Hears, CarriesTool}
 
@@ -71,18 +73,17 @@ no-success Bad body other = λ success. let same = success.1 in cc
 no-success Silent body other = λ success. let same = success.1 in cc
 no-success NoPower body other = λ success. let same = success.1 in cc
 
--- so many commands of a line were sent on LPC, and each was a success; this is the text so far
+-- so many commands of a line were sent, and each was a success; this is the text so far
 pub record Went (tool : Tool) (k : ℕ) (old new : WireView) (text : List ℕ) : Type 0 where
   pub added : List Entry
   pub bodies : List (List ℕ)
-  pub bus : old.bus ≡ Lpc
   pub grows : Grows added old new
-  pub succeeded : AllSucceed (Hears old.bus) old.on (first_of k (command_of 256 tool)) added bodies new.on
+  pub succeeded : AllSucceed (Hears old.bus) old.on (first_of k (command_of (packet_limit old.bus) tool)) added bodies new.on
   pub text_is : text ≡ replies_text tool bodies
 
 -- nothing was sent yet
-pub went-nothing : (tool : Tool) (view : WireView) → view.bus ≡ Lpc → Went tool 0 view view []
-went-nothing tool view bus = record { added = []; bodies = []; bus = bus; grows = grows-nil view; succeeded = (refl, refl, refl); text_is = refl }
+pub went-nothing : (tool : Tool) (view : WireView) → Went tool 0 view view []
+went-nothing tool view = record { added = []; bodies = []; grows = grows-nil view; succeeded = (refl, refl, refl); text_is = refl }
 
 -- what is heard of a command on a wire
 pub heard-once : (asked : Asked) (want : ℕ) (ending : Ending) (old new : WireView) → want ≡ asked.want → (asks : AsksOnce (packet_of asked) want ending old new) → Hears old.bus old.on asked asks.added ending new.on
@@ -93,46 +94,46 @@ heard-once asked want ending old new same asks =
       on_is = asks.grows.on;
     }
 
+-- what is heard of a command of a line, behind others
+heard-behind : (asked command : Asked) (ending : Ending) (old middle new : WireView) → asked ≡ command → middle.bus ≡ old.bus → (asks : AsksOnce (packet_of asked) asked.want ending middle new) → Hears old.bus middle.on command asks.added ending new.on
+heard-behind asked command ending old middle new same bus asks =
+    subst (λ (kind : BusKind). Hears kind middle.on command asks.added ending new.on) bus
+    (subst (λ (sent : Asked). Hears middle.bus middle.on sent asks.added ending new.on) same (heard-once asked asked.want ending middle new refl asks))
+
 -- the next command was a success, too
-pub went-on : (tool : Tool) (k : ℕ) (old middle new : WireView) (text body : List ℕ) (asked : Asked) → asked ≡ command_of 256 tool k → Went tool k old middle text → AsksOnce (packet_of asked) asked.want (Said 0 body) middle new → Went tool (k + 1) old new (text ++ reply_text tool body)
+pub went-on : (tool : Tool) (k : ℕ) (old middle new : WireView) (text body : List ℕ) (asked : Asked) → asked ≡ command_of (packet_limit old.bus) tool k → Went tool k old middle text → AsksOnce (packet_of asked) asked.want (Said 0 body) middle new → Went tool (k + 1) old new (text ++ reply_text tool body)
 went-on tool k old middle new text body asked same went asks =
-    let bus : middle.bus ≡ old.bus = went.grows.bus in
-    let heard : Hears old.bus middle.on (command_of 256 tool k) asks.added (Said 0 body) new.on =
-    subst (λ (kind : BusKind). Hears kind middle.on (command_of 256 tool k) asks.added (Said 0 body) new.on) bus
-    (subst (λ (command : Asked). Hears middle.bus middle.on command asks.added (Said 0 body) new.on) same (heard-once asked asked.want (Said 0 body) middle new refl asks)) in
+    let each = command_of (packet_limit old.bus) tool in
+    let heard = heard-behind asked (each k) (Said 0 body) old middle new same went.grows.bus asks in
     let next : suc k ≡ k + 1 = omega arith in
     subst (λ (count : ℕ). Went tool count old new (text ++ reply_text tool body)) next (record {
       added = went.added ++ asks.added;
       bodies = went.bodies ++ body ∷ [];
-      bus = went.bus;
       grows = grows-then went.added asks.added old middle new went.grows asks.grows;
-      succeeded = succeed-more (Hears old.bus) old.on (first_of k (command_of 256 tool)) went.added went.bodies middle.on (command_of 256 tool k) asks.added body new.on went.succeeded heard;
+      succeeded = succeed-more (Hears old.bus) old.on (first_of k each) went.added went.bodies middle.on (each k) asks.added body new.on went.succeeded heard;
       text_is = ap (λ (front : List ℕ). front ++ reply_text tool body) went.text_is ∙ sym (replies-more tool went.bodies body);
     })
 
 -- a line whose commands were all a success
-pub went-all : (tool : Tool) (old new : WireView) (text : List ℕ) → Went tool (count_of 256 tool) old new text → CarriesTool tool (printed (text ++ closing_text tool)) old new
+pub went-all : (tool : Tool) (old new : WireView) (text : List ℕ) → Went tool (count_of (packet_limit old.bus) tool) old new text → CarriesTool tool (printed (text ++ closing_text tool)) old new
 went-all tool old new text went =
     record {
       added = went.added;
       end = Succeeded went.bodies;
       grows = went.grows;
-      asks = subst (λ (kind : BusKind). AllSucceed (Hears old.bus) old.on (commands_of (packet_limit kind) tool) went.added went.bodies new.on) (sym went.bus) went.succeeded;
+      asks = went.succeeded;
       text_is = ap (λ (front : List ℕ). printed (front ++ closing_text tool)) went.text_is;
     }
 
 -- a line one of whose commands was no success
-pub went-stopped : (tool : Tool) (k : ℕ) (old middle new : WireView) (text : List ℕ) (asked : Asked) (ending : Ending) → k < count_of 256 tool → asked ≡ command_of 256 tool k → ¬ IsSuccess ending → Went tool k old middle text → AsksOnce (packet_of asked) asked.want ending middle new →
+pub went-stopped : (tool : Tool) (k : ℕ) (old middle new : WireView) (text : List ℕ) (asked : Asked) (ending : Ending) → k < count_of (packet_limit old.bus) tool → asked ≡ command_of (packet_limit old.bus) tool k → ¬ IsSuccess ending → Went tool k old middle text → AsksOnce (packet_of asked) asked.want ending middle new →
     CarriesTool tool (printed (refusal_text ending)) old new
 went-stopped tool k old middle new text asked ending there same refused went asks =
-    let bus : middle.bus ≡ old.bus = went.grows.bus in
-    let heard : Hears old.bus middle.on (command_of 256 tool k) asks.added ending new.on =
-    subst (λ (kind : BusKind). Hears kind middle.on (command_of 256 tool k) asks.added ending new.on) bus
-    (subst (λ (command : Asked). Hears middle.bus middle.on command asks.added ending new.on) same (heard-once asked asked.want ending middle new refl asks)) in
-    let split = first_of-split (command_of 256 tool) k (count_of 256 tool) there in
-    let stops : StopsAt (Hears old.bus) old.on (commands_of 256 tool) (went.added ++ asks.added) ending new.on = record {
-      before = first_of k (command_of 256 tool);
-      asked = command_of 256 tool k;
+    let each = command_of (packet_limit old.bus) tool in
+    let split = first_of-split each k (count_of (packet_limit old.bus) tool) there in
+    let stops : StopsAt (Hears old.bus) old.on (commands_of (packet_limit old.bus) tool) (went.added ++ asks.added) ending new.on = record {
+      before = first_of k each;
+      asked = each k;
       after = split.0;
       first = went.added;
       last = asks.added;
@@ -141,49 +142,132 @@ went-stopped tool k old middle new text asked ending there same refused went ask
       commands_are = split.1;
       entries_are = refl;
       succeeded = went.succeeded;
-      asks_last = heard;
+      asks_last = heard-behind asked (each k) ending old middle new same went.grows.bus asks;
       refused = refused;
     } in
     record {
       added = went.added ++ asks.added;
       end = Stopped ending;
       grows = grows-then went.added asks.added old middle new went.grows asks.grows;
-      asks = subst (λ (kind : BusKind). StopsAt (Hears old.bus) old.on (commands_of (packet_limit kind) tool) (went.added ++ asks.added) ending new.on) (sym went.bus) stops;
+      asks = stops;
       text_is = refl;
     }
 
+-- the limits of the buses
+pub limit-least : (bus : BusKind) → 128 ≤ packet_limit bus
+limit-least Lpc = omega arith
+limit-least I2c = omega arith
+limit-least Spi = omega arith
+
+pub limit-most : (bus : BusKind) → packet_limit bus ≤ 544
+limit-most Lpc = omega arith
+limit-most I2c = omega arith
+limit-most Spi = omega arith
+
+-- a limit by the bus that was told
+pub limit-is : (limit : ℕ) (kind bus : BusKind) → limit ≡ packet_limit kind → kind ≡ bus → limit ≡ packet_limit bus
+limit-is limit kind bus told same = told ∙ ap packet_limit same
+
+-- the count of a line's commands, by an equal limit
+pub count-is : (limit own count : ℕ) (tool : Tool) → limit ≡ own → count ≡ count_of limit tool → count ≡ count_of own tool
+count-is limit own count tool same told = told ∙ ap (λ (n : ℕ). count_of n tool) same
+
+-- a command of a line, by an equal limit
+pub asked-is : (limit own k : ℕ) (tool : Tool) (asked : Asked) → limit ≡ own → asked ≡ command_of limit tool k → asked ≡ command_of own tool k
+asked-is limit own k tool asked same told = told ∙ ap (λ (n : ℕ). command_of n tool k) same
+
 -- in how few parts a short range goes
-parts-few : (size : ℕ) → size ≤ 4096 → parts_of 248 size ≤ 18
-parts-few size small = if_cases (λ (parts : ℕ). parts ≤ 18) (size == 0) 1 ((size - 1) / 248 + 1) (λ none. omega arith) (λ some. omega (arith, small))
+parts-few : (most size : ℕ) → 112 ≤ most → size ≤ 4096 → parts_of most size ≤ 38
+parts-few most size large small =
+    let parts : (size - 1) / most ≤ 37 = div-le_of_le-mul most (omega (arith, large, small)) in
+    if_cases (λ (parts : ℕ). parts ≤ 38) (size == 0) 1 ((size - 1) / most + 1) (λ none. omega arith) (λ some. omega (arith, parts))
 
--- the same of what is written
-write_parts-few : (size : ℕ) → size ≤ 4096 → parts_of 240 size ≤ 18
-write_parts-few size small = if_cases (λ (parts : ℕ). parts ≤ 18) (size == 0) 1 ((size - 1) / 240 + 1) (λ none. omega arith) (λ some. omega (arith, small))
+-- how many commands a line sends
+pub count-few : (limit : ℕ) (tool : Tool) → 128 ≤ limit → IsInRange tool → count_of limit tool ≤ 38
+count-few limit Hello large within = omega arith
+count-few limit Version large within = omega arith
+count-few limit ChipInfo large within = omega arith
+count-few limit (CmdVersions number) large within = omega arith
+count-few limit ProtoInfo large within = omega arith
+count-few limit FlashInfo large within = omega arith
+count-few limit (RegionInfo region) large within = omega arith
+count-few limit (FlashRead at size) large within = parts-few (limit - 8) size (omega (arith, large)) within
+count-few limit (FlashWrite at bytes) large within = parts-few (limit - 16) (length bytes) (omega (arith, large)) within.1
+count-few limit (FlashProtect mask flags) large within = omega arith
+count-few limit Hash large within = omega arith
+count-few limit HashAbort large within = omega arith
+count-few limit (HashStart image nonce) large within = omega arith
+count-few limit (HashRange at size) large within = omega arith
+count-few limit Sysinfo large within = omega arith
+count-few limit (Reboot cmd) large within = omega arith
+count-few limit (Test ec_result ret_len bytes) large within = omega arith
+count-few limit Resend large within = omega arith
 
--- how many commands a line sends on LPC
-pub count-few : (tool : Tool) → IsInRange tool → count_of 256 tool ≤ 18
-count-few Hello within = omega arith
-count-few Version within = omega arith
-count-few ChipInfo within = omega arith
-count-few (CmdVersions number) within = omega arith
-count-few ProtoInfo within = omega arith
-count-few FlashInfo within = omega arith
-count-few (RegionInfo region) within = omega arith
-count-few (FlashRead at size) within = parts-few size within
-count-few (FlashWrite at bytes) within = write_parts-few (length bytes) within.1
-count-few (FlashProtect mask flags) within = omega arith
-count-few Hash within = omega arith
-count-few HashAbort within = omega arith
-count-few (HashStart image nonce) within = omega arith
-count-few (HashRange at size) within = omega arith
-count-few Sysinfo within = omega arith
-count-few (Reboot cmd) within = omega arith
-count-few (Test ec_result ret_len bytes) within = omega arith
-count-few Resend within = omega arith
+-- the parts of a short range before one of its parts
+parts-before : (most size k : ℕ) → size ≤ 4096 → k < parts_of most size → k * most ≤ 4096
+parts-before most size k small there =
+    if_cases (λ (parts : ℕ). k < parts → k * most ≤ 4096) (size == 0) 1 ((size - 1) / most + 1) (λ none first. let zero_k : k ≡ 0 = omega (arith, first) in rw zero_k (omega arith))
+    (λ some more. omega (arith, small, div-mul-le_self (size - 1) most, mul-le-mul_right most (le-of k ((size - 1) / most) more))) there where
+      le-of : (a b : ℕ) → a < b + 1 → a ≤ b
+      le-of a b less = omega (arith, less)
+
+-- the text of some replies and of one more
+pub more-text : (k most : ℕ) → (k + 1) * most ≡ k * most + most
+more-text k most = omega (arith, suc-mul k most)
+
+-- twice as much
+twice : (k most : ℕ) → k * (2 * most) ≡ 2 * (k * most)
+twice k most = omega arith
+
+-- behind no command there is no text
+none-before : (k most : ℕ) → k < 1 → most ≤ 2000 → k * most + most ≤ 10000
+none-before k most first short = let zero_k : k ≡ 0 = omega (arith, first) in rw zero_k (omega (arith, short))
+
+-- the text of a line's replies is short
+pub text-short : (limit : ℕ) (tool : Tool) (k : ℕ) → limit ≤ 544 → IsInRange tool → k < count_of limit tool → k * most_text tool (limit - 8) + most_text tool (limit - 8) ≤ 10000
+text-short limit Hello k small within there = none-before k 500 there (omega arith)
+text-short limit Version k small within there = none-before k 500 there (omega arith)
+text-short limit ChipInfo k small within there = none-before k 500 there (omega arith)
+text-short limit (CmdVersions number) k small within there = none-before k 500 there (omega arith)
+text-short limit ProtoInfo k small within there = none-before k 500 there (omega arith)
+text-short limit FlashInfo k small within there = none-before k 500 there (omega arith)
+text-short limit (RegionInfo region) k small within there = none-before k 500 there (omega arith)
+text-short limit (FlashRead at size) k small within there = omega (arith, small, twice k (limit - 8), parts-before (limit - 8) size k within there)
+text-short limit (FlashWrite at bytes) k small within there = omega arith
+text-short limit (FlashProtect mask flags) k small within there = none-before k 500 there (omega arith)
+text-short limit Hash k small within there = none-before k 500 there (omega arith)
+text-short limit HashAbort k small within there = none-before k 500 there (omega arith)
+text-short limit (HashStart image nonce) k small within there = none-before k 500 there (omega arith)
+text-short limit (HashRange at size) k small within there = none-before k 500 there (omega arith)
+text-short limit Sysinfo k small within there = none-before k 500 there (omega arith)
+text-short limit (Reboot cmd) k small within there = none-before k 500 there (omega arith)
+text-short limit (Test ec_result ret_len bytes) k small within there = none-before k (2 * (limit - 8)) there (omega (arith, small))
+text-short limit Resend k small within there = none-before k 500 there (omega arith)
+
+-- a longer body gives no shorter text
+pub text-more : (tool : Tool) (size most : ℕ) → size ≤ most → most_text tool size ≤ most_text tool most
+text-more Hello size most short = omega arith
+text-more Version size most short = omega arith
+text-more ChipInfo size most short = omega arith
+text-more (CmdVersions number) size most short = omega arith
+text-more ProtoInfo size most short = omega arith
+text-more FlashInfo size most short = omega arith
+text-more (RegionInfo region) size most short = omega arith
+text-more (FlashRead at count) size most short = omega (arith, short)
+text-more (FlashWrite at bytes) size most short = omega arith
+text-more (FlashProtect mask flags) size most short = omega arith
+text-more Hash size most short = omega arith
+text-more HashAbort size most short = omega arith
+text-more (HashStart image nonce) size most short = omega arith
+text-more (HashRange at count) size most short = omega arith
+text-more Sysinfo size most short = omega arith
+text-more (Reboot cmd) size most short = omega arith
+text-more (Test ec_result ret_len bytes) size most short = omega (arith, short)
+text-more Resend size most short = omega arith
 
 -- the body of a write of at most so many bytes
-write-short : (at : ℕ) (bytes : List ℕ) → length bytes ≤ 240 → length (flash_write_ask at bytes) ≤ 248
-write-short at bytes short = omega (arith, short)
+write-short : (limit at : ℕ) (bytes : List ℕ) → 128 ≤ limit → length bytes ≤ limit - 16 → 8 + length (flash_write_ask at bytes) ≤ limit
+write-short limit at bytes large short = omega (arith, large, short)
 
 -- part of some bytes
 part-short : (most start : ℕ) (bytes : List ℕ) → length (take most (drop start bytes)) ≤ most
@@ -194,7 +278,7 @@ pub padded-length : (size : ℕ) (bytes : List ℕ) → length bytes ≤ size �
 padded-length size bytes short = omega (arith, length-append bytes (replicate (size - length bytes) 0), length-replicate {A = ℕ} (size - length bytes) 0, short)
 
 -- the body of a TEST_PROTOCOL
-test-short : (ec_result ret_len : ℕ) (bytes : List ℕ) → length bytes ≤ 32 → length (test_ask ec_result ret_len (zero_padded 32 bytes)) ≤ 248
+test-short : (ec_result ret_len : ℕ) (bytes : List ℕ) → length bytes ≤ 32 → length (test_ask ec_result ret_len (zero_padded 32 bytes)) ≤ 40
 test-short ec_result ret_len bytes short = omega (arith, length-append (u32_bytes ec_result ++ u32_bytes ret_len) (zero_padded 32 bytes), padded-length 32 bytes short)
 
 -- the body of a VBOOT_HASH
@@ -202,47 +286,47 @@ pub hash-length : (cmd count offset size : ℕ) (nonce : List ℕ) → length no
 hash-length cmd count offset size nonce short =
     omega (arith, length-append ((cmd ∷ 0 ∷ count ∷ 0 ∷ []) ++ u32_bytes offset ++ u32_bytes size) (zero_padded 64 nonce), padded-length 64 nonce short)
 
--- the bodies of a line's commands are short on LPC
-pub command-short : (tool : Tool) (k : ℕ) → IsInRange tool → length (command_of 256 tool k).body ≤ 248
-command-short Hello k within = omega arith
-command-short Version k within = omega arith
-command-short ChipInfo k within = omega arith
-command-short (CmdVersions number) k within = omega arith
-command-short ProtoInfo k within = omega arith
-command-short FlashInfo k within = omega arith
-command-short (RegionInfo region) k within = omega arith
-command-short (FlashRead at size) k within = omega arith
-command-short (FlashWrite at bytes) k within = write-short ((at + k * 240) % 2 ^ 32) (take 240 (drop (k * 240) bytes)) (part-short 240 (k * 240) bytes)
-command-short (FlashProtect mask flags) k within = omega arith
-command-short Hash k within = omega arith
-command-short HashAbort k within = omega arith
-command-short (HashStart image nonce) k within = omega (arith, hash-length 2 (length nonce) (image_offset image) 0 nonce within)
-command-short (HashRange at size) k within = omega arith
-command-short Sysinfo k within = omega arith
-command-short (Reboot cmd) k within = omega arith
-command-short (Test ec_result ret_len bytes) k within = test-short ec_result ret_len bytes within.2
-command-short Resend k within = omega arith
+-- each command of a line fits a packet of its bus
+pub command-short : (limit : ℕ) (tool : Tool) (k : ℕ) → 128 ≤ limit → IsInRange tool → 8 + length (command_of limit tool k).body ≤ limit
+command-short limit Hello k large within = omega (arith, large)
+command-short limit Version k large within = omega (arith, large)
+command-short limit ChipInfo k large within = omega (arith, large)
+command-short limit (CmdVersions number) k large within = omega (arith, large)
+command-short limit ProtoInfo k large within = omega (arith, large)
+command-short limit FlashInfo k large within = omega (arith, large)
+command-short limit (RegionInfo region) k large within = omega (arith, large)
+command-short limit (FlashRead at size) k large within = omega (arith, large)
+command-short limit (FlashWrite at bytes) k large within = write-short limit ((at + k * (limit - 16)) % 2 ^ 32) (take (limit - 16) (drop (k * (limit - 16)) bytes)) large (part-short (limit - 16) (k * (limit - 16)) bytes)
+command-short limit (FlashProtect mask flags) k large within = omega (arith, large)
+command-short limit Hash k large within = omega (arith, large)
+command-short limit HashAbort k large within = omega (arith, large)
+command-short limit (HashStart image nonce) k large within = omega (arith, large, hash-length 2 (length nonce) (image_offset image) 0 nonce within)
+command-short limit (HashRange at size) k large within = omega (arith, large)
+command-short limit Sysinfo k large within = omega (arith, large)
+command-short limit (Reboot cmd) k large within = omega (arith, large)
+command-short limit (Test ec_result ret_len bytes) k large within = omega (arith, large, test-short ec_result ret_len bytes within.2)
+command-short limit Resend k large within = omega (arith, large)
 
--- what a success has at most on LPC
-pub command-wants : (tool : Tool) (k : ℕ) → IsInRange tool → (command_of 256 tool k).want ≤ 248
-command-wants Hello k within = omega arith
-command-wants Version k within = omega arith
-command-wants ChipInfo k within = omega arith
-command-wants (CmdVersions number) k within = omega arith
-command-wants ProtoInfo k within = omega arith
-command-wants FlashInfo k within = omega arith
-command-wants (RegionInfo region) k within = omega arith
-command-wants (FlashRead at size) k within = omega arith
-command-wants (FlashWrite at bytes) k within = omega arith
-command-wants (FlashProtect mask flags) k within = omega arith
-command-wants Hash k within = omega arith
-command-wants HashAbort k within = omega arith
-command-wants (HashStart image nonce) k within = omega arith
-command-wants (HashRange at size) k within = omega arith
-command-wants Sysinfo k within = omega arith
-command-wants (Reboot cmd) k within = omega arith
-command-wants (Test ec_result ret_len bytes) k within = omega (arith, within.0)
-command-wants Resend k within = omega arith
+-- what a success has at most
+pub command-wants : (limit : ℕ) (tool : Tool) (k : ℕ) → 128 ≤ limit → IsInRange tool → (command_of limit tool k).want ≤ limit - 8
+command-wants limit Hello k large within = omega (arith, large)
+command-wants limit Version k large within = omega (arith, large)
+command-wants limit ChipInfo k large within = omega (arith, large)
+command-wants limit (CmdVersions number) k large within = omega (arith, large)
+command-wants limit ProtoInfo k large within = omega (arith, large)
+command-wants limit FlashInfo k large within = omega (arith, large)
+command-wants limit (RegionInfo region) k large within = omega (arith, large)
+command-wants limit (FlashRead at size) k large within = omega (arith, large)
+command-wants limit (FlashWrite at bytes) k large within = omega (arith, large)
+command-wants limit (FlashProtect mask flags) k large within = omega (arith, large)
+command-wants limit Hash k large within = omega (arith, large)
+command-wants limit HashAbort k large within = omega (arith, large)
+command-wants limit (HashStart image nonce) k large within = omega (arith, large)
+command-wants limit (HashRange at size) k large within = omega (arith, large)
+command-wants limit Sysinfo k large within = omega (arith, large)
+command-wants limit (Reboot cmd) k large within = omega (arith, large)
+command-wants limit (Test ec_result ret_len bytes) k large within = omega (arith, large, within.0)
+command-wants limit Resend k large within = omega (arith, large)
 
 -- two numbers that a test finds equal
 pub eq-of : (a b : ℕ) → (a == b) ≡ true → a ≡ b
@@ -258,30 +342,30 @@ abbrev IsNoCold : Asked → Type 0
 IsNoCold asked = (asked.command < 2 ^ 16) × (((asked.command == 0xD2) && is_cold_body asked.body) ≡ false)
 
 -- no line sends a COLD
-command-no_cold : (tool : Tool) (k : ℕ) → IsInRange tool → IsNoCold (command_of 256 tool k)
-command-no_cold Hello k within = (omega arith, refl)
-command-no_cold Version k within = (omega arith, refl)
-command-no_cold ChipInfo k within = (omega arith, refl)
-command-no_cold (CmdVersions number) k within = (omega arith, refl)
-command-no_cold ProtoInfo k within = (omega arith, refl)
-command-no_cold FlashInfo k within = (omega arith, refl)
-command-no_cold (RegionInfo region) k within = (omega arith, refl)
-command-no_cold (FlashRead at size) k within = (omega arith, refl)
-command-no_cold (FlashWrite at bytes) k within = (omega arith, refl)
-command-no_cold (FlashProtect mask flags) k within = (omega arith, refl)
-command-no_cold Hash k within = (omega arith, refl)
-command-no_cold HashAbort k within = (omega arith, refl)
-command-no_cold (HashStart image nonce) k within = (omega arith, refl)
-command-no_cold (HashRange at size) k within = (omega arith, refl)
-command-no_cold Sysinfo k within = (omega arith, refl)
-command-no_cold (Reboot cmd) k within = (omega arith, ap (λ (four : Bool). four && true) (not-four cmd (cmd == 4) refl within))
-command-no_cold (Test ec_result ret_len bytes) k within = (omega arith, refl)
-command-no_cold Resend k within = (omega arith, refl)
+command-no_cold : (limit : ℕ) (tool : Tool) (k : ℕ) → IsInRange tool → IsNoCold (command_of limit tool k)
+command-no_cold limit Hello k within = (omega arith, refl)
+command-no_cold limit Version k within = (omega arith, refl)
+command-no_cold limit ChipInfo k within = (omega arith, refl)
+command-no_cold limit (CmdVersions number) k within = (omega arith, refl)
+command-no_cold limit ProtoInfo k within = (omega arith, refl)
+command-no_cold limit FlashInfo k within = (omega arith, refl)
+command-no_cold limit (RegionInfo region) k within = (omega arith, refl)
+command-no_cold limit (FlashRead at size) k within = (omega arith, refl)
+command-no_cold limit (FlashWrite at bytes) k within = (omega arith, refl)
+command-no_cold limit (FlashProtect mask flags) k within = (omega arith, refl)
+command-no_cold limit Hash k within = (omega arith, refl)
+command-no_cold limit HashAbort k within = (omega arith, refl)
+command-no_cold limit (HashStart image nonce) k within = (omega arith, refl)
+command-no_cold limit (HashRange at size) k within = (omega arith, refl)
+command-no_cold limit Sysinfo k within = (omega arith, refl)
+command-no_cold limit (Reboot cmd) k within = (omega arith, ap (λ (four : Bool). four && true) (not-four cmd (cmd == 4) refl within))
+command-no_cold limit (Test ec_result ret_len bytes) k within = (omega arith, refl)
+command-no_cold limit Resend k within = (omega arith, refl)
 
 -- a command that is no COLD, as it is spelled
-plain-at : (asked : Asked) → IsNoCold asked → length asked.body ≤ 248 → IsPlain (packet_of asked)
+plain-at : (asked : Asked) → IsNoCold asked → 8 + length asked.body ≤ 544 → IsPlain (packet_of asked)
 plain-at asked (small, other) short = plain-spelled asked.command asked.version asked.body small (omega (arith, short)) other
 
 -- no command of a line is a COLD
-pub command-plain : (tool : Tool) (k : ℕ) → IsInRange tool → IsPlain (packet_of (command_of 256 tool k))
-command-plain tool k within = plain-at (command_of 256 tool k) (command-no_cold tool k within) (command-short tool k within)
+pub command-plain : (limit : ℕ) (tool : Tool) (k : ℕ) → 128 ≤ limit → limit ≤ 544 → IsInRange tool → IsPlain (packet_of (command_of limit tool k))
+command-plain limit tool k large small within = plain-at (command_of limit tool k) (command-no_cold limit tool k within) (omega (arith, small, command-short limit tool k large within))

@@ -52,13 +52,13 @@ asked-size : (at size : ℕ) → size < 2 ^ 32 → (asked_range (flash_read_ask 
 asked-size at size small = omega (arith, small)
 
 -- FLASH_READ
-read-row-wanted : (core : Core) (at size : ℕ) → size < 2 ^ 32 → HasWanted size (flash_read_row core 256 (flash_read_ask at size))
-read-row-wanted core at size small =
+read-row-wanted : (limit : ℕ) (core : Core) (at size : ℕ) → size < 2 ^ 32 → HasWanted size (flash_read_row core limit (flash_read_ask at size))
+read-row-wanted limit core at size small =
     let body = flash_read_ask at size in
     let refusal : Option ℕ → Type 0 = λ refused. HasWanted size (unless_refused refused core (Answered core 0 (part (asked_range body) core.flash))) in
-    if_cases refusal (not (ends_within (length core.flash) (asked_range body))) (Some 3) (if nat_lt (256 - 8) (asked_range body).size then Some 11 else None)
+    if_cases refusal (not (ends_within (length core.flash) (asked_range body))) (Some 3) (if nat_lt (limit - 8) (asked_range body).size then Some 11 else None)
     (λ outside. refusal-wanted size core 3 (omega arith) (omega arith))
-    (λ within. if_cases refusal (nat_lt (256 - 8) (asked_range body).size) (Some 11) None
+    (λ within. if_cases refusal (nat_lt (limit - 8) (asked_range body).size) (Some 11) None
     (λ large. refusal-wanted size core 11 (omega arith) (omega arith))
     (λ fits. (omega arith, λ none. part-length (asked_range body) core.flash within ∙ asked-size at size small)))
 
@@ -73,30 +73,30 @@ write-row-wanted core version body =
     (λ open_. (omega arith, λ none. refl)))
 
 -- a command behind the checks; a pending erase may hold it up
-checked-wanted : (want : ℕ) (core : Core) (held spelled : Bool) (admitted : Admitted) → HasWanted want (row_of core 256 (Ok admitted)) →
-    HasWanted want (row_of core 256 (if is_some core.live.erase && held then Err 16 else if not spelled then Err 3 else Ok admitted))
-checked-wanted want core held spelled admitted wanted =
-    let answers : Result Admitted ℕ → Type 0 = λ result. HasWanted want (row_of core 256 result) in
+checked-wanted : (limit : ℕ) (want : ℕ) (core : Core) (held spelled : Bool) (admitted : Admitted) → HasWanted want (row_of core limit (Ok admitted)) →
+    HasWanted want (row_of core limit (if is_some core.live.erase && held then Err 16 else if not spelled then Err 3 else Ok admitted))
+checked-wanted limit want core held spelled admitted wanted =
+    let answers : Result Admitted ℕ → Type 0 = λ result. HasWanted want (row_of core limit result) in
     if_cases answers (is_some core.live.erase && held) (Err 16) (if not spelled then Err 3 else Ok admitted) (λ busy. refusal-wanted want core 16 (omega arith) (omega arith))
     (λ free. if_cases answers (not spelled) (Err 3) (Ok admitted) (λ wrong. refusal-wanted want core 3 (omega arith) (omega arith)) (λ right. wanted))
 
 -- HELLO
-hello-wanted : (core : Core) → HasWanted 4 (row_of core 256 (admitted_from core (Ok (record { command = 0x01; version = 0; body = hello_ask 0xA0B0C0D0 }))))
-hello-wanted core = checked-wanted 4 core true true _ (omega arith, λ none. omega arith)
+hello-wanted : (limit : ℕ) (core : Core) → HasWanted 4 (row_of core limit (admitted_from core (Ok (record { command = 0x01; version = 0; body = hello_ask 0xA0B0C0D0 }))))
+hello-wanted limit core = checked-wanted limit 4 core true true _ (omega arith, λ none. omega arith)
 
 -- FLASH_READ
-read-wanted : (core : Core) (at size : ℕ) → size < 2 ^ 32 → HasWanted size (row_of core 256 (admitted_from core (Ok (record { command = 0x11; version = 0; body = flash_read_ask at size }))))
-read-wanted core at size small = checked-wanted size core true true _ (read-row-wanted core at size small)
+read-wanted : (limit : ℕ) (core : Core) (at size : ℕ) → size < 2 ^ 32 → HasWanted size (row_of core limit (admitted_from core (Ok (record { command = 0x11; version = 0; body = flash_read_ask at size }))))
+read-wanted limit core at size small = checked-wanted limit size core true true _ (read-row-wanted limit core at size small)
 
 -- FLASH_WRITE
-write-wanted : (core : Core) (body : List ℕ) → HasWanted 0 (row_of core 256 (admitted_from core (Ok (record { command = 0x12; version = 1; body = body }))))
-write-wanted core body = checked-wanted 0 core true (is_write_spelled body) _ (write-row-wanted core 1 body)
+write-wanted : (limit : ℕ) (core : Core) (body : List ℕ) → HasWanted 0 (row_of core limit (admitted_from core (Ok (record { command = 0x12; version = 1; body = body }))))
+write-wanted limit core body = checked-wanted limit 0 core true (is_write_spelled body) _ (write-row-wanted core 1 body)
 
 -- a request as it is spelled
-spelled-wanted : (want : ℕ) (core : Core) (command version : ℕ) (body : List ℕ) → command < 65536 → length body < 65536 →
-    HasWanted want (row_of core 256 (admitted_from core (Ok (record { command = command; version = version; body = body })))) → HasWanted want (handled core 256 (request_packet command version body))
-spelled-wanted want core command version body small short wanted =
-    subst (λ (framed : Result RequestView ℕ). HasWanted want (row_of core 256 (admitted_from core framed))) (sym (framing-spelled command version body small short)) wanted
+spelled-wanted : (limit : ℕ) (want : ℕ) (core : Core) (command version : ℕ) (body : List ℕ) → command < 65536 → length body < 65536 →
+    HasWanted want (row_of core limit (admitted_from core (Ok (record { command = command; version = version; body = body })))) → HasWanted want (handled core limit (request_packet command version body))
+spelled-wanted limit want core command version body small short wanted =
+    subst (λ (framed : Result RequestView ℕ). HasWanted want (row_of core limit (admitted_from core framed))) (sym (framing-spelled command version body small short)) wanted
 
 -- GET_CMD_VERSIONS, by the mask
 mask-wanted : (core : Core) (mask : Option ℕ) → HasWanted 4 (mask_told core mask)
@@ -127,15 +127,15 @@ test-wanted core ec_result ret_len buf short whole =
     (λ other. let tests = leb_tells 21 (u32_at 0 body) in let zero = eqb_tells (u32_at 0 body) 0 in refusal-wanted ret_len core (u32_at 0 body) (grind (arith, zero)) (grind (arith, tests))))
 
 -- FLASH_PROTECT
-protect-wanted : (core : Core) (mask flags : ℕ) → HasWanted 12 (row_of core 256 (admitted_from core (Ok (record { command = 0x15; version = 1; body = flash_protect_ask mask flags }))))
-protect-wanted core mask flags = checked-wanted 12 core true true _ (omega arith, λ none. omega arith)
+protect-wanted : (limit : ℕ) (core : Core) (mask flags : ℕ) → HasWanted 12 (row_of core limit (admitted_from core (Ok (record { command = 0x15; version = 1; body = flash_protect_ask mask flags }))))
+protect-wanted limit core mask flags = checked-wanted limit 12 core true true _ (omega arith, λ none. omega arith)
 
 -- a request with its line of the table, where it has one: each of the checks may refuse it
-line-wanted : (want : ℕ) (core : Core) (request : RequestView) (entry : Option CommandLine) → ((found : CommandLine) → entry ≡ Some found → HasWanted want (row core 256 found.command request.version request.body)) →
-    HasWanted want (row_of core 256 (admitted_by core request entry))
-line-wanted want core request None wanted = refusal-wanted want core 1 (omega arith) (omega arith)
-line-wanted want core request (Some found) wanted =
-    let answers : Result Admitted ℕ → Type 0 = λ result. HasWanted want (row_of core 256 result) in
+line-wanted : (limit : ℕ) (want : ℕ) (core : Core) (request : RequestView) (entry : Option CommandLine) → ((found : CommandLine) → entry ≡ Some found → HasWanted want (row core limit found.command request.version request.body)) →
+    HasWanted want (row_of core limit (admitted_by core request entry))
+line-wanted limit want core request None wanted = refusal-wanted want core 1 (omega arith) (omega arith)
+line-wanted limit want core request (Some found) wanted =
+    let answers : Result Admitted ℕ → Type 0 = λ result. HasWanted want (row_of core limit result) in
     if_cases answers (not (offers found.mask request.version)) _ _ (λ other. refusal-wanted want core 6 (omega arith) (omega arith))
     (λ offered. if_cases answers (is_some core.live.erase && not (is_answered_while_erasing found.command)) _ _ (λ busy. refusal-wanted want core 16 (omega arith) (omega arith))
     (λ free. if_cases answers (not (is_spelled found.command request.version request.body)) _ _ (λ wrong. refusal-wanted want core 3 (omega arith) (omega arith)) (λ right. wanted found refl)))
@@ -145,12 +145,12 @@ abbrev IsNumberOf : ℕ → Command → Type 0
 IsNumberOf number command = (found : CommandLine) → line_of number ≡ Some found → line number command 1 ≡ found
 
 -- a request of a command by its number
-numbered-wanted : (want : ℕ) (core : Core) (number : ℕ) (command : Command) (body : List ℕ) → number < 65536 → length body < 65536 → IsNumberOf number command → HasWanted want (row core 256 command 0 body) →
-    HasWanted want (handled core 256 (request_packet number 0 body))
-numbered-wanted want core number command body small short named wanted =
+numbered-wanted : (limit : ℕ) (want : ℕ) (core : Core) (number : ℕ) (command : Command) (body : List ℕ) → number < 65536 → length body < 65536 → IsNumberOf number command → HasWanted want (row core limit command 0 body) →
+    HasWanted want (handled core limit (request_packet number 0 body))
+numbered-wanted limit want core number command body small short named wanted =
     let request : RequestView = record { command = number; version = 0; body = body } in
-    let rows : CommandLine → Type 0 = λ entry. HasWanted want (row core 256 entry.command 0 body) in
-    spelled-wanted want core number 0 body small short (line-wanted want core request (line_of number) (λ found same. subst rows (named found same) wanted))
+    let rows : CommandLine → Type 0 = λ entry. HasWanted want (row core limit entry.command 0 body) in
+    spelled-wanted limit want core number 0 body small short (line-wanted limit want core request (line_of number) (λ found same. subst rows (named found same) wanted))
 
 -- a version as it is told
 version_text-length : (raw : List ℕ) → length (version_text raw) ≡ 32
@@ -215,44 +215,44 @@ reboot-wanted core body =
     (λ n4. if_cases (HasWanted 0) (cmd == 5) _ _ (λ disable. (omega arith, λ none. refl)) (λ rest. refusal-wanted 0 core 3 (omega arith) (omega arith)))))))
 
 -- each command of a line
-pub command-wanted : (tool : Tool) (k : ℕ) (core : Core) → IsCoreValid core → IsInRange tool → HasWanted (command_of 256 tool k).want (handled core 256 (packet_of (command_of 256 tool k)))
-command-wanted Hello k core valid within = spelled-wanted 4 core 0x01 0 (hello_ask 0xA0B0C0D0) (omega arith) (omega arith) (hello-wanted core)
-command-wanted Version k core valid within = numbered-wanted 100 core 0x02 table.Version [] (omega arith) (omega arith) (λ found same. cc) (version-wanted core)
-command-wanted ChipInfo k core valid within = spelled-wanted 96 core 0x05 0 [] (omega arith) (omega arith) (checked-wanted 96 core true true _ (omega arith, λ none. refl))
-command-wanted (CmdVersions number) k core valid within =
+pub command-wanted : (limit : ℕ) (tool : Tool) (k : ℕ) (core : Core) → 128 ≤ limit → limit ≤ 544 → IsCoreValid core → IsInRange tool → HasWanted (command_of limit tool k).want (handled core limit (packet_of (command_of limit tool k)))
+command-wanted limit Hello k core large small valid within = spelled-wanted limit 4 core 0x01 0 (hello_ask 0xA0B0C0D0) (omega arith) (omega arith) (hello-wanted limit core)
+command-wanted limit Version k core large small valid within = numbered-wanted limit 100 core 0x02 table.Version [] (omega arith) (omega arith) (λ found same. cc) (version-wanted core)
+command-wanted limit ChipInfo k core large small valid within = spelled-wanted limit 96 core 0x05 0 [] (omega arith) (omega arith) (checked-wanted limit 96 core true true _ (omega arith, λ none. refl))
+command-wanted limit (CmdVersions number) k core large small valid within =
     let body = cmd_versions_ask1 number in
-    spelled-wanted 4 core 0x08 1 body (omega arith) (omega arith) (checked-wanted 4 core true true _ (mask-wanted core (known (u16_at 0 body))))
-command-wanted ProtoInfo k core valid within = spelled-wanted 12 core 0x0B 0 [] (omega arith) (omega arith) (checked-wanted 12 core true true _ (omega arith, λ none. refl))
-command-wanted FlashInfo k core valid within = spelled-wanted 24 core 0x10 1 [] (omega arith) (omega arith) (checked-wanted 24 core true true _ (omega arith, λ none. omega arith))
-command-wanted (RegionInfo region) k core valid within =
+    spelled-wanted limit 4 core 0x08 1 body (omega arith) (omega arith) (checked-wanted limit 4 core true true _ (mask-wanted core (known (u16_at 0 body))))
+command-wanted limit ProtoInfo k core large small valid within = spelled-wanted limit 12 core 0x0B 0 [] (omega arith) (omega arith) (checked-wanted limit 12 core true true _ (omega arith, λ none. refl))
+command-wanted limit FlashInfo k core large small valid within = spelled-wanted limit 24 core 0x10 1 [] (omega arith) (omega arith) (checked-wanted limit 24 core true true _ (omega arith, λ none. omega arith))
+command-wanted limit (RegionInfo region) k core large small valid within =
     let body = region_info_ask (region_number region) in
-    spelled-wanted 8 core 0x16 1 body (omega arith) (omega arith) (checked-wanted 8 core true true _ (range-wanted core (region_range (u32_at 0 body) (length core.flash))))
-command-wanted (FlashRead at size) k core valid within =
-    let part = min 248 (size - k * 248) in
-    let place = (at + k * 248) % 2 ^ 32 in
-    spelled-wanted part core 0x11 0 (flash_read_ask place part) (omega arith) (omega arith) (read-wanted core place part (omega arith))
-command-wanted (FlashWrite at bytes) k core valid within =
-    let body = (command_of 256 (FlashWrite at bytes) k).body in
-    spelled-wanted 0 core 0x12 1 body (omega arith) (omega (arith, command-short (FlashWrite at bytes) k within)) (write-wanted core body)
-command-wanted (FlashProtect mask flags) k core valid within =
-    spelled-wanted 12 core 0x15 1 (flash_protect_ask mask flags) (omega arith) (omega arith) (protect-wanted core mask flags)
-command-wanted Hash k core valid within =
-    numbered-wanted 76 core 0x2A table.VbootHash (vboot_hash_ask 0 0 0 0 0 0 (zero_padded 64 [])) (omega arith) (omega arith) (λ found same. cc) (shown-wanted core valid)
-command-wanted HashAbort k core valid within =
-    numbered-wanted 0 core 0x2A table.VbootHash (vboot_hash_ask 1 0 0 0 0 0 (zero_padded 64 [])) (omega arith) (omega arith) (λ found same. cc) (omega arith, λ none. refl)
-command-wanted (HashStart image nonce) k core valid within =
+    spelled-wanted limit 8 core 0x16 1 body (omega arith) (omega arith) (checked-wanted limit 8 core true true _ (range-wanted core (region_range (u32_at 0 body) (length core.flash))))
+command-wanted limit (FlashRead at size) k core large small valid within =
+    let part = min (limit - 8) (size - k * (limit - 8)) in
+    let place = (at + k * (limit - 8)) % 2 ^ 32 in
+    spelled-wanted limit part core 0x11 0 (flash_read_ask place part) (omega arith) (omega arith) (read-wanted limit core place part (omega (arith, small)))
+command-wanted limit (FlashWrite at bytes) k core large small valid within =
+    let body = (command_of limit (FlashWrite at bytes) k).body in
+    spelled-wanted limit 0 core 0x12 1 body (omega arith) (omega (arith, small, command-short limit (FlashWrite at bytes) k large within)) (write-wanted limit core body)
+command-wanted limit (FlashProtect mask flags) k core large small valid within =
+    spelled-wanted limit 12 core 0x15 1 (flash_protect_ask mask flags) (omega arith) (omega arith) (protect-wanted limit core mask flags)
+command-wanted limit Hash k core large small valid within =
+    numbered-wanted limit 76 core 0x2A table.VbootHash (vboot_hash_ask 0 0 0 0 0 0 (zero_padded 64 [])) (omega arith) (omega arith) (λ found same. cc) (shown-wanted core valid)
+command-wanted limit HashAbort k core large small valid within =
+    numbered-wanted limit 0 core 0x2A table.VbootHash (vboot_hash_ask 1 0 0 0 0 0 (zero_padded 64 [])) (omega arith) (omega arith) (λ found same. cc) (omega arith, λ none. refl)
+command-wanted limit (HashStart image nonce) k core large small valid within =
     let body = vboot_hash_ask 2 0 (length nonce) 0 (image_offset image) 0 (zero_padded 64 nonce) in
-    numbered-wanted 76 core 0x2A table.VbootHash body (omega arith) (omega (arith, hash-length 2 (length nonce) (image_offset image) 0 nonce within)) (λ found same. cc) (start-wanted core body)
-command-wanted (HashRange at size) k core valid within =
+    numbered-wanted limit 76 core 0x2A table.VbootHash body (omega arith) (omega (arith, hash-length 2 (length nonce) (image_offset image) 0 nonce within)) (λ found same. cc) (start-wanted core body)
+command-wanted limit (HashRange at size) k core large small valid within =
     let body = vboot_hash_ask 2 0 0 0 at size (zero_padded 64 []) in
-    numbered-wanted 76 core 0x2A table.VbootHash body (omega arith) (omega arith) (λ found same. cc) (start-wanted core body)
-command-wanted Sysinfo k core valid within = numbered-wanted 12 core 0x1C table.Sysinfo [] (omega arith) (omega arith) (λ found same. cc) (sysinfo-wanted core)
-command-wanted (Reboot cmd) k core valid within =
+    numbered-wanted limit 76 core 0x2A table.VbootHash body (omega arith) (omega arith) (λ found same. cc) (start-wanted core body)
+command-wanted limit Sysinfo k core large small valid within = numbered-wanted limit 12 core 0x1C table.Sysinfo [] (omega arith) (omega arith) (λ found same. cc) (sysinfo-wanted core)
+command-wanted limit (Reboot cmd) k core large small valid within =
     let body = reboot_ask cmd 0 in
-    numbered-wanted 0 core 0xD2 table.Reboot body (omega arith) (omega arith) (λ found same. cc) (reboot-wanted core body)
-command-wanted (Test ec_result ret_len bytes) k core valid within =
+    numbered-wanted limit 0 core 0xD2 table.Reboot body (omega arith) (omega arith) (λ found same. cc) (reboot-wanted core body)
+command-wanted limit (Test ec_result ret_len bytes) k core large small valid within =
     let body = test_ask ec_result ret_len (zero_padded 32 bytes) in
     let whole = padded-length 32 bytes within.2 in
-    spelled-wanted ret_len core 0x0A 0 body (omega arith) (omega (arith, command-short (Test ec_result ret_len bytes) k within))
-    (checked-wanted ret_len core true (length body == 40) _ (test-wanted core ec_result ret_len (zero_padded 32 bytes) within.0 whole))
-command-wanted Resend k core valid within = spelled-wanted 0 core 0xDB 0 [] (omega arith) (omega arith) (checked-wanted 0 core false true _ (valid.saved, λ none. refl))
+    spelled-wanted limit ret_len core 0x0A 0 body (omega arith) (omega (arith, small, command-short limit (Test ec_result ret_len bytes) k large within))
+    (checked-wanted limit ret_len core true (length body == 40) _ (test-wanted core ec_result ret_len (zero_padded 32 bytes) within.0 whole))
+command-wanted limit Resend k core large small valid within = spelled-wanted limit 0 core 0xDB 0 [] (omega arith) (omega arith) (checked-wanted limit 0 core false true _ (valid.saved, λ none. refl))

@@ -1,35 +1,33 @@
 -- How a command goes where nothing disturbs it.
 use Rattle.std.specs.Prelude.{◌≡◌, ℕ, List, [], map}
 use Rattle.ec_types.specs.Tables.{packet_limit}
-use Rattle.ec_types.specs.declared.bus.BusKind.TheVariants.{Lpc}
 use Rattle.ec_model.specs.declared.event.Entry.{Entry}
 use Rattle.ec_model.specs.Packet.{response_packet}
-use Rattle.ec_model.specs.Bus.{OnLpc, low_status}
-use Rattle.ec_model.specs.Table.{Table, Awake, Power, Off, On, Core, core_of, table_of}
+use Rattle.ec_model.specs.Table.{Table, Awake, Power, Off, On, Core, core_of}
 use Rattle.ec_model.specs.Answer.{Answered}
 use Rattle.ec_model.specs.Handle.{handled}
 use Rattle.ec_model.specs.Syncable.{settled}
 use Rattle.ec_wire.specs.Quiet.{quiet_entry}
+use Rattle.exchange_laws.specs.AnyBus.{exchange_calls}
 use Rattle.exchange_laws.specs.Calm.{CallsLead}
-use Rattle.exchange_laws.specs.Exchange.{first_statuses, lpc_exchange_calls}
+use Rattle.exchange_laws.specs.Served.{LeavesCore}
 use Rattle.host_transport.specs.Once.{Ending, Said, NoPower}
 use Rattle.ectool_lines.specs.Requests.{Asked, packet_of}
 
--- the request that waits is served first; then the command is handled, its exchange on the bus brings the response, and the host
--- hears its status and body; the exchange leads to the core that the command leaves, with status 0 on the bus
+-- on LPC the request that waits is served first; then the command is handled, its exchange on the bus brings the response, and the
+-- host hears its status and body; the exchange leads to the core that the command leaves, on the same bus, and no request waits
 pub record IsAnswered (old : Table) (asked : Asked) (entries : List Entry) (ending : Ending) (new : Table) : Type 0 where
   pub awake : Awake
   pub after : Core
   pub status : ℕ
   pub body : List ℕ
-  pub window : List ℕ
   pub on : (settled old).power ≡ On awake
-  pub handled_is : handled (core_of (settled old) awake) (packet_limit Lpc) (packet_of asked) ≡ Answered after status body
-  pub entries_are : entries ≡ map quiet_entry (lpc_exchange_calls (first_statuses old) (packet_of asked) (response_packet status body))
+  pub handled_is : handled (core_of (settled old) awake) (packet_limit old.kind) (packet_of asked) ≡ Answered after status body
+  pub entries_are : entries ≡ map quiet_entry (exchange_calls old (packet_of asked) (response_packet status body))
   pub ending_is : ending ≡ Said status body
-  pub leads : CallsLead old (lpc_exchange_calls (first_statuses old) (packet_of asked) (response_packet status body)) new
-  pub new_is :
-      new ≡ table_of after (OnLpc (record { window = window; status = 0; outcome = low_status (response_packet status body) }))
+  pub leads : CallsLead old (exchange_calls old (packet_of asked) (response_packet status body)) new
+  pub leaves : LeavesCore after new
+  pub kind : new.kind ≡ old.kind
 
 -- nothing is sent to a controller that is off
 pub record IsUnanswered (old : Table) (entries : List Entry) (ending : Ending) (new : Table) : Type 0 where

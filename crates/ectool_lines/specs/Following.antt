@@ -1,7 +1,6 @@
 -- How a command goes on a controller whose flash tells its bytes, whatever befalls it.
 use Rattle.std.specs.Prelude.{List, ⊤, IsTrue}
 use Rattle.std.specs.List.{list_any}
-use Rattle.ec_types.specs.declared.bus.BusKind.TheVariants.{Lpc}
 use Rattle.ec_model.specs.declared.event.Entry.{Entry}
 use Rattle.ec_model.specs.Table.{Table, is_on}
 use Rattle.ec_model.specs.Run.{IsRun}
@@ -21,7 +20,7 @@ IsCaused NoPower entries = ⊤
 -- A command, asked of a controller in this state: its entries lead from one state to the next. Where nothing disturbed them, it
 -- was answered as the definitions say, whatever befell the controller before; and where it was not answered, something did.
 pub record Follows (old : Table) (asked : Asked) (entries : List Entry) (ending : Ending) (new : Table) : Type 0 where
-  pub hears : Hears Lpc (is_on old.power) asked entries ending (is_on new.power)
+  pub hears : Hears old.kind (is_on old.power) asked entries ending (is_on new.power)
   pub run : IsRun old entries new
   pub answers : IsUndisturbed entries → Answers old asked entries ending new
   pub caused : IsCaused ending entries

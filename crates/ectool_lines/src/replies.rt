@@ -3,6 +3,7 @@ ghost use Rattle.std.specs.Prelude.{◌≡◌, ◌≤◌, ◌+◌, ◌*◌, ◌+
 ghost use Rattle.std.specs.Fmt.{decimal};
 ghost use Rattle.ec_types.specs.LittleEndian.{u32_at};
 ghost use Rattle.ectool_lines.specs.Requests.{command_of};
+ghost use Rattle.ectool_lines.specs.Sending.{most_text};
 ghost use Rattle.ectool_lines.specs.Texts.{reply_text, hex_text, image_text, version_text, chip_text, proto_info_text, flash_info_text, protection_text, hash_text, hash_reply, sysinfo_text};
 ghost use Rattle.ectool_lines.specs.declared.tool.Tool.TheVariants as tool;
 
@@ -20,11 +21,11 @@ const HASH_BUSY: u8 = 2;
 
 /// Appends what the reply to a command of the line gives to its text.
 pub(crate) fn add_reply(out: &mut LineText, tool: &Tool<'_>, reply: &[u8])
-    requires sized { (k : ℕ) × (length reply.now ≡ (command_of 256 tool.now k).want) }
-    requires few { length reply.now ≤ 248 }
-    requires fits { length out.old ≤ 11500 }
+    requires sized { (limit k : ℕ) × (length reply.now ≡ (command_of limit tool.now k).want) }
+    requires few { length reply.now ≤ 544 }
+    requires fits { length out.old + most_text tool.now (length reply.now) ≤ 12000 }
     ensures text { out.new ≡ out.old ++ reply_text tool.now reply.now }
-    ensures long { length out.new ≤ length out.old + 500 }
+    ensures long { length out.new ≤ length out.old + most_text tool.now (length reply.now) }
 {
     match tool {
         Tool::Hello

@@ -1,7 +1,7 @@
 // A line, carried out: its commands are sent one after the other.
 ghost use Rattle.std.specs.Prelude.{◌≡◌, ◌≤◌, ◌+◌, length, drop};
 ghost use Rattle.flash_dev.specs.Counts.{Rose};
-ghost use Rattle.ec_types.specs.declared.bus.BusKind.TheVariants.{Lpc as LpcKind};
+ghost use Rattle.ec_types.specs.Tables.{packet_limit};
 ghost use Rattle.ectool_lines.specs.Tools.{IsInRange};
 ghost use Rattle.exchange_laws.specs.Served.{IsPlain};
 ghost use Rattle.host_transport.specs.Once.{AsksOnce};
@@ -54,7 +54,6 @@ pub fn run<W: Wire, K: Sink>(
     buffers: &mut Buffers,
     sink: &mut K,
 ) -> Result<(), PrintErr>
-    requires bus { (W.view w.old).bus ≡ LpcKind }
     requires within { IsInRange tool.now }
     ensures runs { RunsTool result tool.now (W.view w.old) (W.view w.new) (K.written sink.old) (K.written sink.new) }
     ensures cause { result ≡ Err PrintErr.Sink → Rose (K.faults sink.old) (K.faults sink.new) }
@@ -67,7 +66,6 @@ pub fn run<W: Wire, K: Sink>(
 
 // Sends the line's commands, up to the first that is not answered with success, and leaves the line's text.
 fn carry_out<W: Wire>(w: &mut W, tool: &Tool<'_>, buffers: &mut Buffers)
-    requires bus { (W.view w.old).bus ≡ LpcKind }
     requires room { 200000 ≤ (W.view w.old).spare }
     requires within { IsInRange tool.now }
     ensures { CarriesTool tool.now buffers.new.text (W.view w.old) (W.view w.new) }
@@ -88,14 +86,13 @@ fn carry_out<W: Wire>(w: &mut W, tool: &Tool<'_>, buffers: &mut Buffers)
 
 // Sends a command once, whose body stands in its buffer.
 fn send<W: Wire>(w: &mut W, command: Command, buffers: &mut Buffers) -> Once
-    requires bus { (W.view w.old).bus ≡ LpcKind }
     requires room { 1500 ≤ (W.view w.old).spare }
-    requires short { 8 + length buffers.old.body ≤ 256 }
+    requires short { 8 + length buffers.old.body ≤ packet_limit (W.view w.old).bus }
     requires plain { IsPlain (packet_of (asked_of command buffers.old.body)) }
     ensures asks { AsksOnce (packet_of (asked_of command buffers.old.body)) command.want (ending_of result
         (drop 8 buffers.new.reply)) (W.view w.old) (W.view w.new) }
     ensures want { result ≡ Once.Status 0 → length buffers.new.reply ≡ 8 + command.want }
-    ensures room { (W.view w.old).spare ≤ (W.view w.new).spare + 531 }
+    ensures room { (W.view w.old).spare ≤ (W.view w.new).spare + length buffers.old.body + 563 }
     ensures text { buffers.new.text ≡ buffers.old.text }
 {
     once(

@@ -188,6 +188,18 @@ fn sends<R: Abort>(rt: &R, tool: &Tool<'_>, body: &[u8])
 }
 
 #[test]
+fn parts_fit_the_bus(rt: HostRuntime) {
+    let tool = Tool::FlashRead { at: 0, size: 4096 };
+    assert_eq!(rt; tool.count(128), 35);
+    assert_eq!(rt; tool.count(256), 17);
+    assert_eq!(rt; tool.count(544), 8);
+    let short = Tool::FlashRead { at: 0, size: 249 };
+    assert_eq!(rt; short.count(128), 3);
+    assert_eq!(rt; short.count(256), 2);
+    assert_eq!(rt; short.count(544), 1);
+}
+
+#[test]
 fn a_hash_is_asked_for_by_its_bytes(rt: HostRuntime) {
     let mut body = [0; 76];
     sends(&rt, &Tool::Hash, &body);

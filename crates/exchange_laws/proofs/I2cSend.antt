@@ -174,11 +174,23 @@ i2c-quiet table awake calls new valid on kind quiet lead =
     subst (λ (t : Table). Settles (settled t) new) (sym bus.same)
     (stop-settles (core_of table awake) bus.state quiet.got new (subst (λ (t : Table). CallsLead t (Did I2cStop quiet.got ∷ []) new) bus.same led))
 
--- a send that is answered is one transaction, call by call
-pub i2c-calls : (table : Table) (awake : Awake) (packet : List ℕ) (calls : List HostCall) (heard : Heard) (new : Table) (after : Core) (result : ℕ) (body : List ℕ) → Valid table → table.power ≡ On awake → table.kind ≡ I2c → length packet ≤ 128 →
-    I2cSend packet calls heard → CallsLead table calls new → handled (core_of table awake) 128 packet ≡ Answered after result body → calls ≡ i2c_transaction packet (response_packet result body)
-i2c-calls table awake packet calls heard new after result body valid on kind short sent lead same =
+-- a send that is answered is one transaction
+pub i2c-exchange : (table : Table) (awake : Awake) (packet : List ℕ) (calls : List HostCall) (heard : Heard) (new : Table) (after : Core) (result : ℕ) (body : List ℕ) → Valid table → table.power ≡ On awake → table.kind ≡ I2c → length packet ≤ 128 →
+    I2cSend packet calls heard → CallsLead table calls new → handled (core_of table awake) 128 packet ≡ Answered after result body → Transacts after packet (response_packet result body) calls heard new
+i2c-exchange table awake packet calls heard new after result body valid on kind short sent lead same =
     let bus = on-bus table awake valid on kind in
     let core = core_of table awake in
     let fits : 8 + length body ≤ 128 = subst (λ (outcome : Outcome). Fits 128 outcome) same (handled-fits core 128 packet (omega arith) bus.core) in
-    (i2c-transacts core after bus.state packet calls heard new result body short same fits sent (subst (λ (t : Table). CallsLead t calls new) bus.same lead)).calls_are
+    i2c-transacts core after bus.state packet calls heard new result body short same fits sent (subst (λ (t : Table). CallsLead t calls new) bus.same lead)
+
+-- the same, call by call
+pub i2c-calls : (table : Table) (awake : Awake) (packet : List ℕ) (calls : List HostCall) (heard : Heard) (new : Table) (after : Core) (result : ℕ) (body : List ℕ) → Valid table → table.power ≡ On awake → table.kind ≡ I2c → length packet ≤ 128 →
+    I2cSend packet calls heard → CallsLead table calls new → handled (core_of table awake) 128 packet ≡ Answered after result body → calls ≡ i2c_transaction packet (response_packet result body)
+i2c-calls table awake packet calls heard new after result body valid on kind short sent lead same =
+    (i2c-exchange table awake packet calls heard new after result body valid on kind short sent lead same).calls_are
+
+-- a table on I2C is settled: no request waits on it
+pub i2c-settled : (table : Table) (awake : Awake) → Valid table → table.power ≡ On awake → table.kind ≡ I2c → settled table ≡ table
+i2c-settled table awake valid on kind =
+    let bus = on-bus table awake valid on kind in
+    subst (λ (t : Table). settled t ≡ t) (sym bus.same) refl

@@ -51,12 +51,12 @@ same-core table awake core bus same on =
     ap (λ (t : Table). core_of t awake) same ∙ sym (ap (core-in core) placed)
 
 -- a table whose settled table is on
-record IsOn (table : Table) : Type 0 where
+pub record IsOn (table : Table) : Type 0 where
   pub awake : Awake
   pub on : table.power ≡ On awake
 
 -- it is on itself
-on-before : (table : Table) (awake : Awake) (power : Power) → table.power ≡ power → (settled_by table power).power ≡ On awake → IsOn table
+pub on-before : (table : Table) (awake : Awake) (power : Power) → table.power ≡ power → (settled_by table power).power ≡ On awake → IsOn table
 on-before table awake Off off on = absurd (let e = sym off ∙ on in cc)
 on-before table awake (On first) same on = record { awake = first; on = same }
 

@@ -151,15 +151,21 @@ exchange-on core after (OnLpc state) packet result body calls heard new kind pla
 exchange-on core after (OnI2c state) packet result body calls heard new kind plain short fits same sent lead = absurd (cc)
 exchange-on core after (OnSpi state) packet result body calls heard new kind plain short fits same sent lead = exchange-by core after state packet result body calls heard new plain short fits same sent lead
 
--- each call of an undisturbed send
-pub spi-exchange : (table : Table) (awake : Awake) (packet : List ℕ) (calls : List HostCall) (heard : Heard) (new : Table) (after : Core) (result : ℕ) (body : List ℕ) → Valid table → table.power ≡ On awake → table.kind ≡ Spi → IsPlain packet → length packet ≤ 544 →
-    SpiSend packet calls heard → CallsLead table calls new → handled (core_of table awake) 544 packet ≡ Answered after result body → calls ≡ spi_transaction packet (response_packet result body)
-spi-exchange table awake packet calls heard new after result body valid on kind plain short sent lead same =
+-- an undisturbed send from a valid table is one exchange
+pub spi-exchanges : (table : Table) (awake : Awake) (packet : List ℕ) (calls : List HostCall) (heard : Heard) (new : Table) (after : Core) (result : ℕ) (body : List ℕ) → Valid table → table.power ≡ On awake → table.kind ≡ Spi → IsPlain packet → length packet ≤ 544 →
+    SpiSend packet calls heard → CallsLead table calls new → handled (core_of table awake) 544 packet ≡ Answered after result body → SpiExchanges packet (response_packet result body) after calls heard new
+spi-exchanges table awake packet calls heard new after result body valid on kind plain short sent lead same =
     let facts = bus-facts table awake valid on in
     let core = core_of table awake in
     let fits : length body ≤ 536 = subst (λ (outcome : Outcome). FitsSpi outcome) same (row_of-fits core (asked core packet) facts.core) in
     let led = subst (λ (t : Table). CallsLead t calls new) (as-table table awake on facts.kind) lead in
-    (exchange-on core after awake.bus packet result body calls heard new (facts.kind ∙ kind) plain short fits same sent led).calls_are
+    exchange-on core after awake.bus packet result body calls heard new (facts.kind ∙ kind) plain short fits same sent led
+
+-- each call of an undisturbed send
+pub spi-exchange : (table : Table) (awake : Awake) (packet : List ℕ) (calls : List HostCall) (heard : Heard) (new : Table) (after : Core) (result : ℕ) (body : List ℕ) → Valid table → table.power ≡ On awake → table.kind ≡ Spi → IsPlain packet → length packet ≤ 544 →
+    SpiSend packet calls heard → CallsLead table calls new → handled (core_of table awake) 544 packet ≡ Answered after result body → calls ≡ spi_transaction packet (response_packet result body)
+spi-exchange table awake packet calls heard new after result body valid on kind plain short sent lead same =
+    (spi-exchanges table awake packet calls heard new after result body valid on kind plain short sent lead same).calls_are
 
 -- a deselect leaves the table, and no request waits
 quiet-by : (core : Core) (bus : BusState) (calls : List HostCall) (new : Table) → kind_of bus ≡ Spi → OneAccess SpiDeselect calls → CallsLead (table_of core bus) calls new → Settles (table_of core bus) new

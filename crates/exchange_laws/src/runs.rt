@@ -1,14 +1,21 @@
 // What holds on every bus.
-ghost use Rattle.std.specs.Prelude.{◌≡◌, ◌<◌, ◌^◌, List, ℕ, length, Ok, IsTrue, IsFalse};
+ghost use Rattle.std.specs.Prelude.{◌≡◌, ◌≤◌, ◌<◌, ◌^◌, List, ℕ, length, Ok, IsTrue, IsFalse};
+ghost use Rattle.std.specs.List.{list_all};
+ghost use Rattle.ec_types.specs.Tables.{packet_limit};
 ghost use Rattle.ec_types.specs.declared.bus.BusKind.{BusKind};
 ghost use Rattle.ec_model.specs.declared.event.Entry.{Entry};
-ghost use Rattle.ec_model.specs.Packet.{request_packet};
-ghost use Rattle.ec_model.specs.Table.{Table, Core, Valid};
+ghost use Rattle.ec_model.specs.Packet.{request_packet, response_packet};
+ghost use Rattle.ec_model.specs.Table.{Table, Awake, Core, On, Valid, core_of};
+ghost use Rattle.ec_model.specs.Answer.{Answered};
 ghost use Rattle.ec_model.specs.Handle.{handled};
+ghost use Rattle.ec_model.specs.Heard.{Heard};
 ghost use Rattle.ec_model.specs.Run.{IsRun};
-ghost use Rattle.ec_model.specs.Send.{Quiet};
+ghost use Rattle.ec_model.specs.Send.{Send, Quiet};
+ghost use Rattle.ec_model.specs.Syncable.{settled};
 ghost use Rattle.ec_model.specs.Upset.{IsUndisturbed};
 ghost use Rattle.ec_model.specs.HostCalls.{calls_of};
+ghost use Rattle.ec_wire.specs.Calls.{is_wire_step};
+ghost use Rattle.exchange_laws.specs.AnyBus.{IsExchangeOf};
 ghost use Rattle.exchange_laws.specs.Calm.{CallsLead};
 ghost use Rattle.exchange_laws.specs.Served.{is_cold, IsPlain, IsAnswer};
 ghost use Rattle.exchange_laws.specs.Resting.{Rests};
@@ -27,6 +34,18 @@ pub fn plain_requests()
         IsPlain (request_packet command version body) }
     ensures answered { (packet : List ℕ) (core : Core) (limit : ℕ) → IsPlain packet →
         IsAnswer (handled core limit packet) }
+{}
+
+/// Where nothing disturbs a send to a controller that is on, each of its entries is known: on LPC the request that
+/// waits is served first; then the packet is handled, and its response is heard.
+pub fn exchanges()
+    ensures { (table : Table) (awake : Awake) (packet : List ℕ) (added : List Entry) (heard : Heard) (new : Table)
+        (after : Core) (result : ℕ) (body : List ℕ) →
+        Valid table → (settled table).power ≡ On awake → IsPlain packet → length packet ≤ packet_limit table.kind →
+        Send table.kind added packet heard → IsRun table added new → IsUndisturbed added →
+        IsTrue (list_all is_wire_step added) →
+        handled (core_of (settled table) awake) (packet_limit table.kind) packet ≡ Answered after result body →
+        IsExchangeOf table packet (response_packet result body) after added heard new }
 {}
 
 /// A bus that is brought to rest, where nothing disturbs that, is at rest, from whatever state; and no request waits on

@@ -3,6 +3,7 @@ use Rattle.std.proofs.Common.{◌≡◌, refl, sym, ap, ◌∙◌, subst, ℕ, �
 use Rattle.std.specs.List.{list_any}
 use Rattle.std.proofs.lemmas.List.{drop_at}
 use Rattle.flash_dev.specs.Told.{Changes}
+use Rattle.ec_types.specs.Tables.{packet_limit}
 use Rattle.ec_types.specs.declared.bus.BusKind.{BusKind}
 use Rattle.ec_types.specs.declared.bus.BusKind.TheVariants.{Lpc}
 use Rattle.ec_model.specs.declared.event.Event.{Event}
@@ -15,6 +16,7 @@ use Rattle.ec_model.specs.Packet.{response_packet}
 use Rattle.ec_model.specs.Upset.{is_upset, is_world_event, IsUndisturbed}
 use Rattle.ec_model.specs.HostCalls.{HostCall, calls_of, on_after, on_after_entry}
 use Rattle.ec_model.specs.Run.{IsRun}
+use Rattle.ec_model.specs.Send.{Send}
 use Rattle.ec_model.specs.Table.{Table, Power, Off, On, Awake, Core, Valid, is_on, core_of}
 use Rattle.ec_model.specs.Answer.{Answered}
 use Rattle.ec_model.specs.Handle.{handled}
@@ -23,11 +25,11 @@ use Rattle.ec_model.specs.Syncable.{settled}
 use Rattle.ec_wire.specs.Calls.{WireView, Grows, Agrees}
 use Rattle.ec_wire.proofs.Calm.{or-false, calm_entry, undisturbed}
 use Rattle.exchange_laws.specs.Calm.{CallsLead}
-use Rattle.exchange_laws.specs.Exchange.{first_statuses, IsExchange}
+use Rattle.exchange_laws.specs.AnyBus.{IsExchangeOf}
 use Rattle.exchange_laws.specs.Served.{IsPlain, ServesPacket, Settles}
 use Rattle.exchange_laws.proofs.CalmRun.{calm_lead}
 use Rattle.exchange_laws.proofs.LpcSend.{lpc-calm, lpc-quiet}
-use Rattle.exchange_laws.proofs.LpcExchange.{exchange-run}
+use Rattle.exchange_laws.proofs.AnyBus.{exchange-of}
 use Rattle.exchange_laws.proofs.LpcEnds.{lpc-ends}
 use Rattle.exchange_laws.proofs.OffLead.{lpc-off}
 use Rattle.exchange_laws.proofs.Rests.{ends-rest}
@@ -146,6 +148,16 @@ settles-calm bus old new kind quiets law =
     changes-map _ _ old.table new.table (λ (told left : Table) (run : IsRun told quiets.added left) (agrees : Agrees old.bus old.on told) (on : old.on ≡ true) (calm : IsUndisturbed (since old new)).
     settles-by bus old told left (calls_of quiets.added) law (on-or-off told told.power refl) kind agrees on (lead-since quiets.added old new told left quiets.grows run calm)) quiets.grows.run
 
+-- each entry of an undisturbed send, whatever the bus
+pub exchanges-calm : (bus : BusKind) (packet : List ℕ) (heard : Heard) (old new : WireView) → old.bus ≡ bus → IsPlain packet → length packet ≤ packet_limit bus → Sends bus packet heard old new → ExchangesWhereCalm packet heard old new
+exchanges-calm bus packet heard old new kind plain short sends =
+    changes-map _ _ old.table new.table (λ (told left : Table) (run : IsRun told sends.added left) (agrees : Agrees old.bus old.on told) (calm : IsUndisturbed (since old new)) (awake : Awake) (after : Core) (result : ℕ) (body : List ℕ) (on : (settled told).power ≡ On awake) (same : handled (core_of (settled told) awake) (packet_limit told.kind) packet ≡ Answered after result body).
+    let is : bus ≡ told.kind = sym (agrees.kind_is ∙ kind) in
+    let sent = subst (λ (own : BusKind). Send own sends.added packet heard) is sends.sent in
+    let fits = subst (λ (own : BusKind). length packet ≤ packet_limit own) is short in
+    subst (λ (entries : List Entry). IsExchangeOf told packet (response_packet result body) after entries heard left) (sym (since-added sends.added old new sends.grows))
+    (exchange-of told awake packet sends.added heard left after result body agrees.valid on plain fits sent run (added-calm sends.added old new sends.grows calm) sends.grows.steps same)) sends.grows.run
+
 -- LPC: an undisturbed send to a controller that is on
 pub lpc-serves : (packet : List ℕ) (heard : Heard) (old new : WireView) → old.bus ≡ Lpc → IsPlain packet → length packet ≤ 256 → Sends Lpc packet heard old new → ServesWhereCalm packet heard old new
 lpc-serves packet heard old new kind plain short sends =
@@ -156,13 +168,6 @@ pub lpc-caused : (packet : List ℕ) (heard : Heard) (old new : WireView) → ol
 lpc-caused packet heard old new kind plain short sends =
     caused-calm Lpc packet heard old new kind sends (λ told awake left valid on is lead. lpc-calm told awake packet (calls_of sends.added) heard left valid on is plain short sends.sent.1 lead)
     (λ told left off lead. lpc-off told packet (calls_of sends.added) heard left off sends.sent.1 lead)
-
--- LPC: each entry of an undisturbed send
-pub lpc-exchanged : (packet : List ℕ) (heard : Heard) (old new : WireView) → old.bus ≡ Lpc → IsPlain packet → length packet ≤ 256 → Sends Lpc packet heard old new → ExchangesWhereCalm packet heard old new
-lpc-exchanged packet heard old new kind plain short sends =
-    changes-map _ _ old.table new.table (λ (told left : Table) (run : IsRun told sends.added left) (agrees : Agrees old.bus old.on told) (calm : IsUndisturbed (since old new)) (awake : Awake) (after : Core) (result : ℕ) (body : List ℕ) (on : (settled told).power ≡ On awake) (same : handled (core_of (settled told) awake) 256 packet ≡ Answered after result body).
-    subst (λ (entries : List Entry). IsExchange (first_statuses told) packet (response_packet result body) after entries heard left) (sym (since-added sends.added old new sends.grows))
-    (exchange-run told awake packet sends.added heard left after result body agrees.valid (agrees.kind_is ∙ kind) on plain short sends.sent run (added-calm sends.added old new sends.grows calm) sends.grows.steps same)) sends.grows.run
 
 -- LPC: an undisturbed poll
 pub lpc-settles : (old new : WireView) → old.bus ≡ Lpc → Quiets Lpc old new → SettlesWhereCalm old new

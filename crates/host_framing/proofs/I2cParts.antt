@@ -120,11 +120,11 @@ talks-unwritten packet bytes old first new same start writes =
     }
 
 -- the calls of a request that was taken
-abbrev asked_calls : List ℕ → List HostCall
+abbrev pub asked_calls : List ℕ → List HostCall
 asked_calls packet = Did I2cStartWrite 0 ∷ i2c_writes (0xDA ∷ packet) (replicate (1 + length packet) 0)
 
 -- a request that was taken
-asked-made : (packet bytes : List ℕ) (old first second : WireView) → bytes ≡ packet → Made (Did I2cStartWrite 0 ∷ []) old first → Made (i2c_writes (0xDA ∷ bytes) (replicate (1 + length bytes) 0)) first second → Made (asked_calls packet) old second
+pub asked-made : (packet bytes : List ℕ) (old first second : WireView) → bytes ≡ packet → Made (Did I2cStartWrite 0 ∷ []) old first → Made (i2c_writes (0xDA ∷ bytes) (replicate (1 + length bytes) 0)) first second → Made (asked_calls packet) old second
 asked-made packet bytes old first second same start writes =
     made-then _ _ _ _ _ start (subst (λ (xs : List ℕ). Made (i2c_writes (0xDA ∷ xs) (replicate (1 + length xs) 0)) first second) same writes)
 

@@ -10,6 +10,7 @@ ghost use Rattle.host_framing.specs.Clean.{
   UndisturbedWhereCalm,
   ServesWhereCalm,
   SettlesWhereCalm,
+  ExchangesWhereCalm,
   CausedWhereCalm,
   RestsBehind,
 };
@@ -29,7 +30,7 @@ const SHORTEST: u8 = HEADER_LENGTH as u8;
 const LONGEST: u8 = 128;
 
 // One access. Whether the controller took it, which answers 0.
-fn took<W: Wire>(w: &mut W, a: Access) -> bool
+pub fn took<W: Wire>(w: &mut W, a: Access) -> bool
     requires { 1 ≤ (W.view w.old).spare }
     ensures takes { Takes a result (W.view w.old) (W.view w.new) }
     ensures room { (W.view w.new).spare + 1 ≡ (W.view w.old).spare }
@@ -38,7 +39,7 @@ fn took<W: Wire>(w: &mut W, a: Access) -> bool
 }
 
 // Writes the protocol's byte and the packet, up to the first byte that is not taken. Whether all were.
-fn write_request<W: Wire>(w: &mut W, packet: &[u8]) -> bool
+pub fn write_request<W: Wire>(w: &mut W, packet: &[u8]) -> bool
     requires short { length packet.now ≤ 128 }
     requires room { length packet.now + 1 ≤ (W.view w.old).spare }
     ensures writes { I2cWrites packet.now result (W.view w.old) (W.view w.new) }
@@ -116,7 +117,7 @@ fn talk_i2c<W: Wire>(w: &mut W, packet: &Packet, reply: &mut Packet) -> Raw
 }
 
 // A stop, which ends what is under way.
-fn stop<W: Wire>(w: &mut W)
+pub fn stop<W: Wire>(w: &mut W)
     requires { 1 ≤ (W.view w.old).spare }
     ensures quiets { Quiets I2cKind (W.view w.old) (W.view w.new) }
     ensures room { (W.view w.new).spare + 1 ≡ (W.view w.old).spare }
@@ -158,6 +159,7 @@ pub fn send_i2c<W: Wire>(w: &mut W, packet: &Packet, reply: &mut Packet) -> Raw
     ensures sends { Sends I2cKind packet.now (heard_of result reply.new) (W.view w.old) (W.view w.new) }
     ensures undisturbed { UndisturbedWhereCalm (W.view w.old) (W.view w.new) }
     ensures calm { ServesWhereCalm packet.now (heard_of result reply.new) (W.view w.old) (W.view w.new) }
+    ensures exchange { ExchangesWhereCalm packet.now (heard_of result reply.new) (W.view w.old) (W.view w.new) }
     ensures takes { TakesWhereCalm packet.now (heard_of result reply.new) (W.view w.old) (W.view w.new) }
     ensures cause { CausedWhereCalm (heard_of result reply.new) (W.view w.old) (W.view w.new) }
     ensures rests { RestsBehind (W.view w.old) (W.view w.new) }

@@ -122,7 +122,7 @@ fn read_window<W: Wire>(w: &mut W, port: u16, count: u16, reply: &mut Packet)
 }
 
 // Waits until the bus is not busy, and writes the packet and the command byte. Whether that came about.
-fn ask_lpc<W: Wire>(w: &mut W, packet: &Packet) -> bool
+pub fn ask_lpc<W: Wire>(w: &mut W, packet: &Packet) -> bool
     requires short { length packet.now ≤ 256 }
     requires room { 266 ≤ (W.view w.old).spare }
     ensures asks { LpcAsks packet.now result (W.view w.old) (W.view w.new) }

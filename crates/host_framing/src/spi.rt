@@ -14,6 +14,7 @@ ghost use Rattle.host_framing.specs.Clean.{
   UndisturbedWhereCalm,
   ServesWhereCalm,
   SettlesWhereCalm,
+  ExchangesWhereCalm,
   CausedWhereCalm,
   RestsBehind,
 };
@@ -65,7 +66,7 @@ fn get<W: Wire>(w: &mut W, count: u16, reply: &mut Packet)
 }
 
 // Selects, and sends the packet.
-fn ask<W: Wire>(w: &mut W, packet: &Packet)
+pub fn ask<W: Wire>(w: &mut W, packet: &Packet)
     requires short { length packet.now ≤ 544 }
     requires room { 545 ≤ (W.view w.old).spare }
     ensures asks { Asks packet.now (W.view w.old) (W.view w.new) }
@@ -154,7 +155,7 @@ fn talk<W: Wire>(w: &mut W, packet: &Packet, reply: &mut Packet) -> Raw
 }
 
 // Deselects, with which the bus is at rest.
-fn deselect<W: Wire>(w: &mut W) -> u8
+pub fn deselect<W: Wire>(w: &mut W) -> u8
     requires { 1 ≤ (W.view w.old).spare }
     ensures made { Made (Did SpiDeselect result ∷ []) (W.view w.old) (W.view w.new) }
     ensures room { (W.view w.new).spare + 1 ≡ (W.view w.old).spare }
@@ -196,6 +197,7 @@ pub fn send_spi<W: Wire>(w: &mut W, packet: &Packet, reply: &mut Packet) -> Raw
     ensures sends { Sends SpiKind packet.now (heard_of result reply.new) (W.view w.old) (W.view w.new) }
     ensures undisturbed { UndisturbedWhereCalm (W.view w.old) (W.view w.new) }
     ensures calm { ServesWhereCalm packet.now (heard_of result reply.new) (W.view w.old) (W.view w.new) }
+    ensures exchange { ExchangesWhereCalm packet.now (heard_of result reply.new) (W.view w.old) (W.view w.new) }
     ensures cause { CausedWhereCalm (heard_of result reply.new) (W.view w.old) (W.view w.new) }
     ensures rests { RestsBehind (W.view w.old) (W.view w.new) }
     ensures takes { TakesWhereCalm packet.now (heard_of result reply.new) (W.view w.old) (W.view w.new) }

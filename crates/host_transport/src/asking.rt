@@ -1,6 +1,6 @@
-// One request, sent once. The bus is LPC until the others are built.
+// One request, sent once.
 ghost use Rattle.std.specs.Prelude.{◌≡◌, ◌≤◌, ◌+◌, length, drop, IsTrue};
-ghost use Rattle.ec_types.specs.declared.bus.BusKind.TheVariants.{Lpc as LpcKind};
+ghost use Rattle.ec_types.specs.Tables.{packet_limit};
 ghost use Rattle.ec_model.specs.Packet.{request_packet, is_response, response_view};
 ghost use Rattle.exchange_laws.specs.Served.{IsPlain};
 ghost use Rattle.host_transport.specs.Once.{AsksOnce, said_by};
@@ -10,11 +10,11 @@ use crate::ending::Once;
 use ec_packet::{Packet, decode_response, write_request};
 use ec_types::status;
 use ec_wire::Wire;
-use host_framing::{Raw, send_lpc};
+use host_framing::{Raw, send};
 
 /// Sends a request once; `packet` becomes its packet. At a status, `reply` is the reply, whose body stands behind the
-/// header's 8 bytes; a success has a body of `want` bytes. It takes at most 531 entries of the wire's room, and asks
-/// for 1,500.
+/// header's 8 bytes; a success has a body of `want` bytes. It takes at most 563 entries of the wire's room and one for
+/// each byte of the body, and asks for 1,500.
 pub fn once<W: Wire>(
     w: &mut W,
     command: u16,
@@ -24,20 +24,19 @@ pub fn once<W: Wire>(
     packet: &mut Packet,
     reply: &mut Packet,
 ) -> Once
-    requires bus { (W.view w.old).bus ≡ LpcKind }
     requires room { 1500 ≤ (W.view w.old).spare }
-    requires short { 8 + length body.now ≤ 256 }
+    requires short { 8 + length body.now ≤ packet_limit (W.view w.old).bus }
     requires plain { IsPlain (request_packet command version body.now) }
     ensures asks { AsksOnce (request_packet command version body.now) want (ending_of result (drop 8 reply.new))
         (W.view w.old) (W.view w.new) }
     ensures want { result ≡ Once.Status 0 → length reply.new ≡ 8 + want }
-    ensures room { (W.view w.old).spare ≤ (W.view w.new).spare + 531 }
+    ensures room { (W.view w.old).spare ≤ (W.view w.new).spare + length body.now + 563 }
 {
     if !w.power() {
         return Once::NoPower;
     }
     write_request(command, version, body, packet);
-    let raw = send_lpc(w, packet, reply);
+    let raw = send(w, packet, reply);
     if !w.power() {
         return Once::NoPower;
     }

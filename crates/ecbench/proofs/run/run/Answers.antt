@@ -1,80 +1,87 @@
-use Rattle.std.proofs.Common.{◌≡◌, ap, sym, ◌∙◌, refl, true}
+use Rattle.std.proofs.Common.{rules, ◌≡◌, ap, sym, ◌∙◌, refl, true, Bool}
+use Rattle.std.specs.Prelude.{IsTrue}
 use Rattle.flash_dev.specs.Ranges.{is_flash_size}
-use Rattle.ecbench.proofs.Whole.{runs-none, keeps-none, guarded-none, opens, run-ends, run-runs, run-keeps, run-guarded, run-faults, run-cuts, run-undisturbed, run-followed}
+use Rattle.ec_types.specs.declared.bus.BusKind.{BusKind}
+use Rattle.bench_words.proofs.ReaderLemmas.{spell_once}
+use Rattle.ecbench.specs.Endings.{StartsOn, StartsBooted, StartsFrom, seen, undisturbed, followed, RunsTo, KeepsRo, GuardsRun}
+use Rattle.ecbench.proofs.Whole.{runs-none, guarded-none, ends-by, ends-told, where-spelled, nothing-at-all, told-all}
 use Rattle.ecbench.proofs.run.run.Goals as goal
 
+pub returns-in-Err-NoMemory-clause-run : goal.returns-in-Err-NoMemory-clause-run
+returns-in-Err-NoMemory-clause-run g c = λ path bus pin spelled.
+    rw (c.refused-in-Err-NoMemory.ensures.flash, c.refused-in-Err-NoMemory.ensures.journal) (runs-none bus pin (g.F.FlashDev.seen c.args.flash).held)
+
+pub returns-in-Err-NoMemory-clause-guarded : goal.returns-in-Err-NoMemory-clause-guarded
+returns-in-Err-NoMemory-clause-guarded g c = λ path bus pin spelled.
+    rw (c.refused-in-Err-NoMemory.ensures.journal) (guarded-none bus pin (g.F.FlashDev.seen c.args.flash).held)
+
+pub returns-in_default-clause-ends : goal.returns-in_default-clause-ends
+returns-in_default-clause-ends g c =
+    let read = c.in-Ok.read in
+    rw (c.refused-in_default.ensures.exit, c.refused-in_default.ensures.journal)
+    ((read.flash.now, read.bus, read.pin, c.in-Ok.ensures.ok), search rules, nothing-at-all (g.S.Source.left c.args.source.now) (g.K.Sink.written c.args.sink.now))
+
 pub returns-in_default-clause-run : goal.returns-in_default-clause-run
-returns-in_default-clause-run g c =
-    let held = (g.F.FlashDev.seen c.args.flash).held in
-    rw (c.refused-in_default.ensures.flash, c.refused-in_default.ensures.journal) (runs-none held)
-
-pub returns-then-not-are_words-clause-run : goal.returns-then-not-are_words-clause-run
-returns-then-not-are_words-clause-run g c =
-    let held = (g.F.FlashDev.seen c.args.flash).held in
-    rw (c.refused.ensures.flash, c.refused.ensures.journal) (runs-none held)
-
-pub returns-in_default-clause-guard : goal.returns-in_default-clause-guard
-returns-in_default-clause-guard g c =
-    let held = (g.F.FlashDev.seen c.args.flash).held in
-    rw (c.refused-in_default.ensures.flash) (keeps-none c.refused-in_default.result.journal.entries held)
-
-pub returns-then-not-are_words-clause-guard : goal.returns-then-not-are_words-clause-guard
-returns-then-not-are_words-clause-guard g c =
-    let held = (g.F.FlashDev.seen c.args.flash).held in
-    rw (c.refused.ensures.flash) (keeps-none c.refused.result.journal.entries held)
+returns-in_default-clause-run g c = λ path bus pin spelled.
+    rw (c.refused-in_default.ensures.flash, c.refused-in_default.ensures.journal) (runs-none bus pin (g.F.FlashDev.seen c.args.flash).held)
 
 pub returns-in_default-clause-guarded : goal.returns-in_default-clause-guarded
-returns-in_default-clause-guarded g c =
-    let held = (g.F.FlashDev.seen c.args.flash).held in
-    rw (c.refused-in_default.ensures.journal) (guarded-none held)
+returns-in_default-clause-guarded g c = λ path bus pin spelled.
+    rw (c.refused-in_default.ensures.journal) (guarded-none bus pin (g.F.FlashDev.seen c.args.flash).held)
 
-pub returns-then-not-are_words-clause-guarded : goal.returns-then-not-are_words-clause-guarded
-returns-then-not-are_words-clause-guarded g c =
-    let held = (g.F.FlashDev.seen c.args.flash).held in
-    rw (c.refused.ensures.journal) (guarded-none held)
+pub returns-in_default-clause-undisturbed : goal.returns-in_default-clause-undisturbed
+returns-in_default-clause-undisturbed g c = λ none.
+    let read = c.in-Ok.read in
+    rw (c.refused-in_default.ensures.exit, c.refused-in_default.ensures.journal)
+    (told-all (g.F.FlashDev.seen c.args.flash).held _ (λ bytes.
+    ((read.flash.now, read.bus, read.pin, c.in-Ok.ensures.ok), search rules, nothing-at-all (g.S.Source.left c.args.source.now) (g.K.Sink.written c.args.sink.now))))
 
-pub returns-clause-guard : goal.returns-clause-guard
-returns-clause-guard g c =
-    let allowed : is_flash_size (g.F.FlashDev.seen c.args.flash).extent ≡ true = ap is_flash_size (sym c.size.ensures) ∙ c.in-Some.ensures.allowed.0 refl in
-    run-keeps _ _ _ c.new-bench.result c.drive-exit.new.bench _ _ _ _ _ (g.met.F.FlashDev.told_whole c.args.flash) allowed (opens _ _ _ c.new-bench.ensures c.new-2.ensures.table c.new-2.ensures.device)
-    (record { flash = c.finish-flash.ensures.flash; journal = c.finish-flash.ensures.journal; table = c.finish-flash.ensures.table }) c.drive-exit.ensures.drives
-
-pub returns-clause-guarded : goal.returns-clause-guarded
-returns-clause-guarded g c =
-    let allowed : is_flash_size (g.F.FlashDev.seen c.args.flash).extent ≡ true = ap is_flash_size (sym c.size.ensures) ∙ c.in-Some.ensures.allowed.0 refl in
-    run-guarded _ (g.F.FlashDev.seen c.args.flash) (g.met.F.FlashDev.told_whole c.args.flash) allowed
+pub returns-in_default-clause-followed : goal.returns-in_default-clause-followed
+returns-in_default-clause-followed g c =
+    let read = c.in-Ok.read in
+    rw (c.refused-in_default.ensures.exit, c.refused-in_default.ensures.journal)
+    (told-all (g.F.FlashDev.seen c.args.flash).held _ (λ bytes.
+    ((read.flash.now, read.bus, read.pin, c.in-Ok.ensures.ok), search rules, nothing-at-all (g.S.Source.left c.args.source.now) (g.K.Sink.written c.args.sink.now))))
 
 pub returns-clause-ends : goal.returns-clause-ends
 returns-clause-ends g c =
     let allowed : is_flash_size (g.F.FlashDev.seen c.args.flash).extent ≡ true = ap is_flash_size (sym c.size.ensures) ∙ c.in-Some.ensures.allowed.0 refl in
-    run-ends _ _ _ _ c.new-bench.result c.drive-exit.new.bench _ _ _ _ _ (record { worded = sym c.are_words.ensures ∙ c.if-not-are_words.false; sized = allowed }) (opens _ _ _ c.new-bench.ensures c.new-2.ensures.table c.new-2.ensures.device)
-    (record { flash = c.finish-flash.ensures.flash; journal = c.finish-flash.ensures.journal; table = c.finish-flash.ensures.table }) c.drive-exit.ensures.drives
+    let read = c.in-Ok.read in
+    ends-by StartsOn seen c.carry_by.result.exit c.args.words.now (g.F.FlashDev.seen c.args.flash).extent read.flash.now read.bus read.pin _ _ _ _ _ c.in-Ok.ensures.ok allowed c.carry_by.ensures.carries.ends
 
 pub returns-clause-run : goal.returns-clause-run
 returns-clause-run g c =
-    run-runs _ _ _ c.new-bench.result c.drive-exit.new.bench _ _ _ _ _ (opens _ _ _ c.new-bench.ensures c.new-2.ensures.table c.new-2.ensures.device)
-    (record { flash = c.finish-flash.ensures.flash; journal = c.finish-flash.ensures.journal; table = c.finish-flash.ensures.table }) c.drive-exit.ensures.drives
+    let read = c.in-Ok.read in
+    let came = g.F.FlashDev.seen c.args.flash in
+    let back = g.F.FlashDev.seen c.carry_by.result.flash in
+    where-spelled c.args.words.now (λ (bus : BusKind) (pin : Bool). RunsTo bus pin c.carry_by.result.journal.entries came.held back.held) read.flash.now read.bus read.pin
+    (spell_once c.args.words.now) c.in-Ok.ensures.ok c.carry_by.ensures.carries.runs
 
-pub returns-clause-faults : goal.returns-clause-faults
-returns-clause-faults g c =
-    run-faults _ _ _ c.new-bench.result c.drive-exit.new.bench _ _ _ _ _ (opens _ _ _ c.new-bench.ensures c.new-2.ensures.table c.new-2.ensures.device)
-    (record { flash = c.finish-flash.ensures.flash; journal = c.finish-flash.ensures.journal; table = c.finish-flash.ensures.table }) c.drive-exit.ensures.drives
+pub returns-clause-guard : goal.returns-clause-guard
+returns-clause-guard g c =
+    let read = c.in-Ok.read in
+    let came = g.F.FlashDev.seen c.args.flash in
+    let back = g.F.FlashDev.seen c.carry_by.result.flash in
+    where-spelled c.args.words.now (λ (bus : BusKind) (pin : Bool). IsTrue pin → KeepsRo c.carry_by.result.journal.entries came.held back.held) read.flash.now read.bus read.pin
+    (spell_once c.args.words.now) c.in-Ok.ensures.ok c.carry_by.ensures.carries.keeps
 
-pub returns-clause-cuts : goal.returns-clause-cuts
-returns-clause-cuts g c =
-    run-cuts _ _ _ c.new-bench.result c.drive-exit.new.bench _ _ _ _ _ (opens _ _ _ c.new-bench.ensures c.new-2.ensures.table c.new-2.ensures.device)
-    (record { flash = c.finish-flash.ensures.flash; journal = c.finish-flash.ensures.journal; table = c.finish-flash.ensures.table }) c.drive-exit.ensures.drives
+pub returns-clause-guarded : goal.returns-clause-guarded
+returns-clause-guarded g c =
+    let read = c.in-Ok.read in
+    let came = g.F.FlashDev.seen c.args.flash in
+    where-spelled c.args.words.now (λ (bus : BusKind) (pin : Bool). GuardsRun bus pin c.carry_by.result.journal.entries came.held) read.flash.now read.bus read.pin
+    (spell_once c.args.words.now) c.in-Ok.ensures.ok c.carry_by.ensures.carries.guards
 
 pub returns-clause-undisturbed : goal.returns-clause-undisturbed
-returns-clause-undisturbed g c =
+returns-clause-undisturbed g c = λ none.
     let allowed : is_flash_size (g.F.FlashDev.seen c.args.flash).extent ≡ true = ap is_flash_size (sym c.size.ensures) ∙ c.in-Some.ensures.allowed.0 refl in
-    run-undisturbed _ _ _ _ c.new-bench.result c.drive-exit.new.bench _ _ _ _ _ (g.met.F.FlashDev.told_whole c.args.flash) (record { worded = sym c.are_words.ensures ∙ c.if-not-are_words.false; sized = allowed })
-    (opens _ _ _ c.new-bench.ensures c.new-2.ensures.table c.new-2.ensures.device)
-    (record { flash = c.finish-flash.ensures.flash; journal = c.finish-flash.ensures.journal; table = c.finish-flash.ensures.table }) c.drive-exit.ensures.drives
+    let read = c.in-Ok.read in
+    ends-told StartsBooted undisturbed (g.F.FlashDev.seen c.args.flash).held c.carry_by.result.exit c.args.words.now (g.F.FlashDev.seen c.args.flash).extent read.flash.now read.bus read.pin _ _ _ _ _
+    c.in-Ok.ensures.ok allowed (c.carry_by.ensures.carries.whole none)
 
 pub returns-clause-followed : goal.returns-clause-followed
 returns-clause-followed g c =
     let allowed : is_flash_size (g.F.FlashDev.seen c.args.flash).extent ≡ true = ap is_flash_size (sym c.size.ensures) ∙ c.in-Some.ensures.allowed.0 refl in
-    run-followed _ _ _ _ c.new-bench.result c.drive-exit.new.bench _ _ _ _ _ (g.met.F.FlashDev.told_whole c.args.flash) (record { worded = sym c.are_words.ensures ∙ c.if-not-are_words.false; sized = allowed })
-    (opens _ _ _ c.new-bench.ensures c.new-2.ensures.table c.new-2.ensures.device)
-    (record { flash = c.finish-flash.ensures.flash; journal = c.finish-flash.ensures.journal; table = c.finish-flash.ensures.table }) c.drive-exit.ensures.drives
+    let read = c.in-Ok.read in
+    ends-told StartsFrom followed (g.F.FlashDev.seen c.args.flash).held c.carry_by.result.exit c.args.words.now (g.F.FlashDev.seen c.args.flash).extent read.flash.now read.bus read.pin _ _ _ _ _
+    c.in-Ok.ensures.ok allowed c.carry_by.ensures.carries.follows

@@ -1,5 +1,4 @@
 use Rattle.std.proofs.Common.{◌≡◌, refl, sym, ◌∙◌, subst, ℕ, List, Ok, Err, None, arith}
-use Rattle.ec_types.specs.declared.bus.BusKind.TheVariants.{Lpc as LpcKind}
 use Rattle.bench_wire.specs.BenchView.{wire_view}
 use Rattle.line_reader.specs.declared.reader.Next.{Next}
 use Rattle.line_reader.specs.declared.reader.Next.TheVariants.{Line, Last}
@@ -13,7 +12,7 @@ use Rattle.ecbench.proofs.serving.serve.Goals as goal
 pub loop-number-init : goal.loop-number-init
 loop-number-init g c =
     let fresh = c.requires in (
-      served-nothing (wire_view LpcKind c.args.bench.now) (g.S.Source.left c.args.source.now) (g.K.Sink.written c.args.sink.now) c.args.reader.now fresh (Takes-nothing (g.S.Source.left c.args.source.now)),
+      served-nothing (wire_view g.B.Bus.bus c.args.bench.now) (g.S.Source.left c.args.source.now) (g.K.Sink.written c.args.sink.now) c.args.reader.now fresh (Takes-nothing (g.S.Source.left c.args.source.now)),
       rw fresh (omega arith),
       omega arith,
       omega arith,
@@ -30,18 +29,18 @@ pub returns-in-Err-serve_line-clause-serves : goal.returns-in-Err-serve_line-cla
 returns-in-Err-serve_line-clause-serves g c =
     let none : exit_at c.in-Ok.next c.loop-number.number ≡ None = sym c.exit_at.ensures ∙ c.in_default.is in
     let line = at-any c.in-Ok.next c.loop-number.number _ _ _ _ _ _ _ _ _ none c.loop-number.invariant.0 c.next.ensures.within c.in-Ok.ensures.reads.finds in
-    let served : ServesLine (Err c.in-Err-serve_line.exit) c.loop-number.number c.next.new.self.line (wire_view LpcKind c.loop-number.bench) (wire_view LpcKind c.serve_line.new.bench) (g.K.Sink.written c.loop-number.sink) (g.K.Sink.written c.serve_line.new.sink) =
-    subst (λ (bytes : List ℕ). ServesLine (Err c.in-Err-serve_line.exit) c.loop-number.number bytes (wire_view LpcKind c.loop-number.bench) (wire_view LpcKind c.serve_line.new.bench) (g.K.Sink.written c.loop-number.sink) (g.K.Sink.written c.serve_line.new.sink)) c.line.ensures c.in-Err-serve_line.ensures.serves in
-    serves-stopped c.in-Err-serve_line.exit c.loop-number.number _ _ _ _ _ _ _ _ _ _ _ c.loop-number.invariant.0 refl refl line served
+    let served : ServesLine (Err c.in-Err-serve_line.exit) c.loop-number.number c.next.new.self.line (wire_view g.B.Bus.bus c.loop-number.bench) (wire_view g.B.Bus.bus c.serve_line.new.bench) (g.K.Sink.written c.loop-number.sink) (g.K.Sink.written c.serve_line.new.sink) =
+    subst (λ (bytes : List ℕ). ServesLine (Err c.in-Err-serve_line.exit) c.loop-number.number bytes (wire_view g.B.Bus.bus c.loop-number.bench) (wire_view g.B.Bus.bus c.serve_line.new.bench) (g.K.Sink.written c.loop-number.sink) (g.K.Sink.written c.serve_line.new.sink)) c.line.ensures c.in-Err-serve_line.ensures.serves in
+    serves-stopped c.in-Err-serve_line.exit c.loop-number.number _ _ _ _ _ _ _ _ _ _ _ c.loop-number.invariant.0 refl line served
 
 pub returns-then-is_last-clause-serves : goal.returns-then-is_last-clause-serves
 returns-then-is_last-clause-serves g c =
     let last : c.in-Ok.next ≡ Last = c.is_last.ensures.0 c.if-is_last.true in
     let finds : Finds (Ok Last) c.loop-number.reader c.next.new.self (g.S.Source.left c.loop-number.source) (g.S.Source.left c.next.new.source) =
     subst (λ (next : Next). Finds (Ok next) c.loop-number.reader c.next.new.self (g.S.Source.left c.loop-number.source) (g.S.Source.left c.next.new.source)) last c.in-Ok.ensures.reads.finds in
-    let served : ServesLine (Ok tt) c.loop-number.number c.next.new.self.line (wire_view LpcKind c.loop-number.bench) (wire_view LpcKind c.serve_line.new.bench) (g.K.Sink.written c.loop-number.sink) (g.K.Sink.written c.serve_line.new.sink) =
-    subst (λ (bytes : List ℕ). ServesLine (Ok tt) c.loop-number.number bytes (wire_view LpcKind c.loop-number.bench) (wire_view LpcKind c.serve_line.new.bench) (g.K.Sink.written c.loop-number.sink) (g.K.Sink.written c.serve_line.new.sink)) c.line.ensures c.in_default-serve_line.ensures.serves in
-    serves-last c.loop-number.number _ _ _ _ _ _ _ _ _ _ _ c.loop-number.invariant.0 refl refl c.next.ensures.within.read finds served
+    let served : ServesLine (Ok tt) c.loop-number.number c.next.new.self.line (wire_view g.B.Bus.bus c.loop-number.bench) (wire_view g.B.Bus.bus c.serve_line.new.bench) (g.K.Sink.written c.loop-number.sink) (g.K.Sink.written c.serve_line.new.sink) =
+    subst (λ (bytes : List ℕ). ServesLine (Ok tt) c.loop-number.number bytes (wire_view g.B.Bus.bus c.loop-number.bench) (wire_view g.B.Bus.bus c.serve_line.new.bench) (g.K.Sink.written c.loop-number.sink) (g.K.Sink.written c.serve_line.new.sink)) c.line.ensures c.in_default-serve_line.ensures.serves in
+    serves-last c.loop-number.number _ _ _ _ _ _ _ _ _ _ _ c.loop-number.invariant.0 refl c.next.ensures.within.read finds served
 
 pub loop-number-preserved : goal.loop-number-preserved
 loop-number-preserved g c =
@@ -49,9 +48,9 @@ loop-number-preserved g c =
     let line : c.in-Ok.next ≡ Line = ended-line c.in-Ok.next c.loop-number.number none (λ same. let yes = c.is_last.ensures.1 same in let no = c.if-is_last.false in cc) in
     let finds : Finds (Ok Line) c.loop-number.reader c.next.new.self (g.S.Source.left c.loop-number.source) (g.S.Source.left c.next.new.source) =
     subst (λ (next : Next). Finds (Ok next) c.loop-number.reader c.next.new.self (g.S.Source.left c.loop-number.source) (g.S.Source.left c.next.new.source)) line c.in-Ok.ensures.reads.finds in
-    let served : ServesLine (Ok tt) c.loop-number.number c.next.new.self.line (wire_view LpcKind c.loop-number.bench) (wire_view LpcKind c.serve_line.new.bench) (g.K.Sink.written c.loop-number.sink) (g.K.Sink.written c.serve_line.new.sink) =
-    subst (λ (bytes : List ℕ). ServesLine (Ok tt) c.loop-number.number bytes (wire_view LpcKind c.loop-number.bench) (wire_view LpcKind c.serve_line.new.bench) (g.K.Sink.written c.loop-number.sink) (g.K.Sink.written c.serve_line.new.sink)) c.line.ensures c.in_default-serve_line.ensures.serves in (
-      served-more c.loop-number.number _ _ _ _ _ _ _ _ _ _ _ c.loop-number.invariant.0 refl refl finds served,
+    let served : ServesLine (Ok tt) c.loop-number.number c.next.new.self.line (wire_view g.B.Bus.bus c.loop-number.bench) (wire_view g.B.Bus.bus c.serve_line.new.bench) (g.K.Sink.written c.loop-number.sink) (g.K.Sink.written c.serve_line.new.sink) =
+    subst (λ (bytes : List ℕ). ServesLine (Ok tt) c.loop-number.number bytes (wire_view g.B.Bus.bus c.loop-number.bench) (wire_view g.B.Bus.bus c.serve_line.new.bench) (g.K.Sink.written c.loop-number.sink) (g.K.Sink.written c.serve_line.new.sink)) c.line.ensures c.in_default-serve_line.ensures.serves in (
+      served-more c.loop-number.number _ _ _ _ _ _ _ _ _ _ _ c.loop-number.invariant.0 refl finds served,
       c.next.ensures.within.read,
       omega (arith, c.loop-number.invariant.2, c.next.ensures.cause.later),
       omega (arith, c.loop-number.invariant.3, c.serve_line.ensures.later),

@@ -11,16 +11,16 @@ read_reply-requires g c = reply-is-response _ _ _ _ _ c.in-Reply.ensures.sends
 
 pub returns-then-not-power-2-clause-asks : goal.returns-then-not-power-2-clause-asks
 returns-then-not-power-2-clause-asks g c =
-    let heard = heard_of c.send_lpc-raw.result c.send_lpc-raw.new.reply in
-    asks-once _ _ _ heard _ _ _ c.write_request.ensures.spelled c.requires.bus (sym c.power.ensures.power ∙ c.if-not-power.false) c.send_lpc-raw.ensures.sends
+    let heard = heard_of c.send-raw.result c.send-raw.new.reply in
+    asks-once _ _ _ heard _ _ _ c.write_request.ensures.spelled (sym c.power.ensures.power ∙ c.if-not-power.false) c.send-raw.ensures.sends
     (ap (λ (on : Bool). ended on (heard_as c.args.want heard)) (sym c.if-not-power-2.true ∙ c.power-2.ensures.power))
 
 pub returns-in-Reply-clause-asks : goal.returns-in-Reply-clause-asks
 returns-in-Reply-clause-asks g c =
-    asks-once _ _ _ _ _ _ _ c.write_request.ensures.spelled c.requires.bus (sym c.power.ensures.power ∙ c.if-not-power.false) c.in-Reply.ensures.sends
-    (c.read_reply.ensures.ending ∙ ap (λ (on : Bool). ended on (said_by c.args.want (response_view c.send_lpc-raw.new.reply))) (sym c.if-not-power-2.false ∙ c.power-2.ensures.power))
+    asks-once _ _ _ _ _ _ _ c.write_request.ensures.spelled (sym c.power.ensures.power ∙ c.if-not-power.false) c.in-Reply.ensures.sends
+    (c.read_reply.ensures.ending ∙ ap (λ (on : Bool). ended on (said_by c.args.want (response_view c.send-raw.new.reply))) (sym c.if-not-power-2.false ∙ c.power-2.ensures.power))
 
 pub returns-in-Silent-clause-asks : goal.returns-in-Silent-clause-asks
 returns-in-Silent-clause-asks g c =
-    asks-once _ _ _ _ _ _ _ c.write_request.ensures.spelled c.requires.bus (sym c.power.ensures.power ∙ c.if-not-power.false) c.in-Silent.ensures.sends
+    asks-once _ _ _ _ _ _ _ c.write_request.ensures.spelled (sym c.power.ensures.power ∙ c.if-not-power.false) c.in-Silent.ensures.sends
     (ap (λ (on : Bool). ended on Silent) (sym c.if-not-power-2.false ∙ c.power-2.ensures.power))

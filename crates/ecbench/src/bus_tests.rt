@@ -1,0 +1,99 @@
+// Whole runs by the words of the command line: the three buses, the pin, and words outside the grammar.
+use crate::run::{Exit, run};
+use bench_io::{MemSink, MemSource};
+use bench_words::Word;
+use flash_dev::MemFlash;
+use std::process::Abort;
+use std::test::Fail;
+
+const ERASED: [u8; 65536] = [0xFF; 65536];
+
+// Runs a script on an erased flash in memory, by these words, and looks at the exit and at the text.
+fn plays_by<R: Abort + AllocGlobal>(
+    rt: &R,
+    words: &[&[u8]],
+    script: &[u8],
+    exit: Exit,
+    text: &[u8],
+) -> Result<(), Fail> {
+    let mut list = Vec::new(rt.alloc());
+    for word in words {
+        list.push(Word::new(rt.alloc(), word)?)?;
+    }
+    let flash = MemFlash::new(rt.alloc(), &ERASED, &[])?;
+    let mut source = MemSource::new(rt.alloc(), script, &[])?;
+    let mut sink = MemSink::new(rt.alloc(), 9000, &[])?;
+    let ended = run(rt.alloc(), list.as_slice(), flash, &mut source, &mut sink);
+    assert_eq!(rt; ended.exit, exit);
+    assert_eq!(rt; sink.bytes(), text);
+    Ok(())
+}
+
+#[test]
+fn each_bus_greets_and_tells_its_limits(rt: HostRuntime) -> Result<(), Fail> {
+    for (bus, text) in [
+        (
+            b"lpc".as_slice(),
+            b"EC says hello!\nversions 0x00000008 request 256 response 256 flags 0x00000001\n".as_slice(),
+        ),
+        (
+            b"i2c".as_slice(),
+            b"EC says hello!\nversions 0x00000008 request 128 response 128 flags 0x00000001\n".as_slice(),
+        ),
+        (
+            b"spi".as_slice(),
+            b"EC says hello!\nversions 0x00000008 request 544 response 544 flags 0x00000001\n".as_slice(),
+        ),
+    ] {
+        plays_by(
+            &rt,
+            &[b"f", b"--bus", bus],
+            b"hello\nprotoinfo",
+            Exit::Done,
+            text,
+        )?;
+    }
+    Ok(())
+}
+
+#[test]
+fn a_request_is_put_on_spi_by_hand(rt: HostRuntime) -> Result<(), Fail> {
+    plays_by(
+        &rt,
+        &[b"f", b"--bus=spi"],
+        b"spi select\nspi 0318010000000400d0c0b0a0\nspi 0000\ntick 1\nspi 0000000000000000000000000000\nspi deselect",
+        Exit::Done,
+        b"ok\nf8f9f9f9f9f9f9f9f9f9f9f9\nfafa\nok\nec030f000004000000d4c3b2a1ed\nok\n",
+    )
+}
+
+#[test]
+fn the_words_name_the_pin(rt: HostRuntime) -> Result<(), Fail> {
+    for words in [
+        [b"f".as_slice(), b"--bus=i2c", b"--pin", b"off"].as_slice(),
+        [b"f".as_slice(), b"--pin=off"].as_slice(),
+    ] {
+        plays_by(
+            &rt,
+            words,
+            b"flashprotect",
+            Exit::Done,
+            b"flags 0x00000000 valid 0x0000006f writable 0x00000041\n",
+        )?;
+    }
+    Ok(())
+}
+
+#[test]
+fn words_outside_the_grammar_read_nothing(rt: HostRuntime) -> Result<(), Fail> {
+    for words in [
+        [b"f".as_slice(), b"--pin", b"on", b"--pin", b"on"].as_slice(),
+        [b"--bus".as_slice(), b"spi", b"f"].as_slice(),
+        [b"f".as_slice(), b"--"].as_slice(),
+        [b"f".as_slice(), b"--bus", b"usb"].as_slice(),
+        [].as_slice(),
+    ] {
+        plays_by(&rt, words, b"hello", Exit::BadWords, b"")?;
+    }
+    Ok(())
+}
