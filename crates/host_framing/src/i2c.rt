@@ -15,7 +15,7 @@ ghost use Rattle.host_framing.specs.Clean.{
   RestsBehind,
 };
 ghost use Rattle.host_framing.specs.Room.{TakesWhereCalm};
-ghost use Rattle.exchange_laws.specs.Served.{IsPlain};
+ghost use Rattle.host_framing.specs.Request.{IsRequest};
 
 use crate::calls::{Raw, did, judge};
 use ec_model::Access;
@@ -155,7 +155,7 @@ pub fn send_i2c<W: Wire>(w: &mut W, packet: &Packet, reply: &mut Packet) -> Raw
     requires bus { (W.view w.old).bus ≡ I2cKind }
     requires room { 1500 ≤ (W.view w.old).spare }
     requires short { length packet.now ≤ 128 }
-    requires plain { IsPlain packet.now }
+    requires request { IsRequest packet.now }
     ensures sends { Sends I2cKind packet.now (heard_of result reply.new) (W.view w.old) (W.view w.new) }
     ensures undisturbed { UndisturbedWhereCalm (W.view w.old) (W.view w.new) }
     ensures calm { ServesWhereCalm packet.now (heard_of result reply.new) (W.view w.old) (W.view w.new) }

@@ -23,7 +23,7 @@ ghost use Rattle.host_framing.specs.Clean.{
   RestsBehind,
 };
 ghost use Rattle.host_framing.specs.Room.{TakesWhereCalm};
-ghost use Rattle.exchange_laws.specs.Served.{IsPlain};
+ghost use Rattle.host_framing.specs.Request.{IsRequest};
 
 use crate::calls::{Raw, did, judge, named_length, waited};
 use ec_model::Access;
@@ -187,7 +187,7 @@ pub fn send_lpc<W: Wire>(w: &mut W, packet: &Packet, reply: &mut Packet) -> Raw
     requires bus { (W.view w.old).bus ≡ LpcKind }
     requires room { 1500 ≤ (W.view w.old).spare }
     requires short { length packet.now ≤ 256 }
-    requires plain { IsPlain packet.now }
+    requires request { IsRequest packet.now }
     ensures sends { Sends LpcKind packet.now (heard_of result reply.new) (W.view w.old) (W.view w.new) }
     ensures undisturbed { UndisturbedWhereCalm (W.view w.old) (W.view w.new) }
     ensures calm { ServesWhereCalm packet.now (heard_of result reply.new) (W.view w.old) (W.view w.new) }

@@ -12,7 +12,7 @@ ghost use Rattle.host_framing.specs.Clean.{
   RestsBehind,
 };
 ghost use Rattle.host_framing.specs.Room.{TakesWhereCalm};
-ghost use Rattle.exchange_laws.specs.Served.{IsPlain};
+ghost use Rattle.host_framing.specs.Request.{IsRequest};
 
 use crate::calls::Raw;
 use crate::{quiet_i2c, quiet_lpc, quiet_spi, send_i2c, send_lpc, send_spi};
@@ -40,7 +40,7 @@ pub fn quiet<W: Wire>(w: &mut W)
 pub fn send<W: Wire>(w: &mut W, packet: &Packet, reply: &mut Packet) -> Raw
     requires room { 1500 ≤ (W.view w.old).spare }
     requires short { length packet.now ≤ packet_limit (W.view w.old).bus }
-    requires plain { IsPlain packet.now }
+    requires request { IsRequest packet.now }
     ensures sends { Sends (W.view w.old).bus packet.now (heard_of result reply.new) (W.view w.old) (W.view w.new) }
     ensures undisturbed { UndisturbedWhereCalm (W.view w.old) (W.view w.new) }
     ensures calm { ServesWhereCalm packet.now (heard_of result reply.new) (W.view w.old) (W.view w.new) }

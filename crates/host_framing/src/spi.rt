@@ -19,7 +19,7 @@ ghost use Rattle.host_framing.specs.Clean.{
   RestsBehind,
 };
 ghost use Rattle.host_framing.specs.Room.{TakesWhereCalm};
-ghost use Rattle.exchange_laws.specs.Served.{IsPlain};
+ghost use Rattle.host_framing.specs.Request.{IsRequest};
 
 use crate::calls::{Raw, did, named_length, waited};
 use ec_model::Access;
@@ -193,7 +193,7 @@ pub fn send_spi<W: Wire>(w: &mut W, packet: &Packet, reply: &mut Packet) -> Raw
     requires bus { (W.view w.old).bus ≡ SpiKind }
     requires room { 1500 ≤ (W.view w.old).spare }
     requires short { length packet.now ≤ 544 }
-    requires plain { IsPlain packet.now }
+    requires request { IsRequest packet.now }
     ensures sends { Sends SpiKind packet.now (heard_of result reply.new) (W.view w.old) (W.view w.new) }
     ensures undisturbed { UndisturbedWhereCalm (W.view w.old) (W.view w.new) }
     ensures calm { ServesWhereCalm packet.now (heard_of result reply.new) (W.view w.old) (W.view w.new) }
