@@ -6,13 +6,13 @@ ghost use Rattle.flash_dev.specs.Device.{IsRead};
 ghost use Rattle.flash_dev.specs.Told.{told_is_whole};
 ghost use Rattle.bench_io.specs.Files.{IsSized, file_device};
 
-use flash_dev::{DevErr, Failed, FlashDev, Geometry, and_into};
+use flash_dev::{BLOCK_SIZE, DevErr, Failed, FlashDev, Geometry, Tear, and_into};
 use std::alloc::Global;
 use std::io::{self, Read, Seek, SeekFrom, Write};
 use std::marker::Model;
 
-/// A file as a flash. What a read gives is held in memory; a program and an erase write their range to the file, and
-/// then hold it. A call whose write or seek answers an error is a fault: its range then holds what the file gives, as
+/// A file as a flash. What a read gives is held in memory; a program, an erase and a poke write their range to the file,
+/// and then hold it. A call whose write or seek answers an error is a fault: its range then holds what the file gives, as
 /// far as that can be read.
 #[derive(Drop)]
 pub struct FileFlash<T: Read + Write + Seek> {
@@ -65,7 +65,29 @@ impl<T: Read + Write + Seek + Drop> FileFlash<T> {
 }
 
 impl<T: Read + Write + Seek> FileFlash<T> {
-    // Writes a range, and counts that.
+    // Writes a range. Where the file fails, that is a fault.
+    fn put(&mut self, at: usize, bytes: &[u8]) -> Result<(), Failed>
+        requires { at + length bytes.now ≤ length self.old.bytes }
+        ensures done { OnOk result (self.new.bytes ≡ overwritten at bytes.now self.old.bytes) }
+        ensures outside { Torn at (length bytes.now) self.old.bytes self.new.bytes }
+        ensures later { self.old.faults ≤ self.new.faults }
+        ensures counts { self.new ≡ record {
+          bytes = self.new.bytes;
+          faults = if is_err result then raised_by 1 self.old.faults else self.old.faults;
+          wear = self.old.wear;
+          fetched = self.old.fetched;
+        } }
+    {
+        match write_through(&mut self.file, &mut self.bytes, at, bytes) {
+            Ok(()) => Ok(()),
+            Err(_) => {
+                self.faults = self.faults.saturating_add(1);
+                Err(Failed)
+            }
+        }
+    }
+
+    // Writes the range of a program or an erase, which wears.
     fn store(&mut self, at: usize, bytes: &[u8]) -> Result<(), DevErr>
         requires { at + length bytes.now ≤ length self.old.bytes }
         ensures done { OnOk result (self.new.bytes ≡ overwritten at bytes.now self.old.bytes) }
@@ -80,12 +102,9 @@ impl<T: Read + Write + Seek> FileFlash<T> {
         } }
     {
         self.wear = self.wear.saturating_add(1);
-        match write_through(&mut self.file, &mut self.bytes, at, bytes) {
+        match self.put(at, bytes) {
             Ok(()) => Ok(()),
-            Err(_) => {
-                self.faults = self.faults.saturating_add(1);
-                Err(DevErr::Failed)
-            }
+            Err(Failed) => Err(DevErr::Failed),
         }
     }
 }
@@ -119,10 +138,19 @@ impl<T: Read + Write + Seek> FlashDev for FileFlash<T> {
     }
 
     fn erase(&mut self, block: u32) -> Result<(), DevErr> {
-        self.store(block as usize * 4096, &[0xFF; 4096])
+        self.store(
+            block as usize * BLOCK_SIZE as usize,
+            &[0xFF; BLOCK_SIZE as usize],
+        )
     }
 
     ghost told_whole = { λ flash bytes same. told_is_whole flash.bytes bytes same };
+}
+
+impl<T: Read + Write + Seek> Tear for FileFlash<T> {
+    fn poke(&mut self, at: u32, bytes: &[u8]) -> Result<(), Failed> {
+        self.put(at as usize, bytes)
+    }
 }
 
 // How many bytes a flash over this file has.

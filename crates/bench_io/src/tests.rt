@@ -1,6 +1,6 @@
 // What no clause says: that memory suffices, and what passes through the adapters.
 use crate::{FileFlash, MemSink, MemSource, Sink, Source, StdSink, StdSource, put_all};
-use flash_dev::{DevErr, Failed, FlashDev};
+use flash_dev::{DevErr, Failed, FlashDev, Tear};
 use std::alloc::Global;
 use std::fs::{self, File};
 use std::io::{self, Error, ErrorKind, Read, Seek, SeekFrom, Write};
@@ -134,6 +134,20 @@ fn what_is_written_reaches_the_file(rt: HostRuntime) -> Result<(), Fail> {
     assert_eq!(rt; held(rt.alloc(), &mut flash)?, want);
     let mut again = FileFlash::new(rt.alloc(), File::open(&rt, name)?)?;
     assert_eq!(rt; held(rt.alloc(), &mut again)?, want);
+    fs::remove_file(&rt, name)?;
+    Ok(())
+}
+
+#[test]
+fn a_poke_reaches_the_file(rt: HostRuntime) -> Result<(), Fail> {
+    let name = "a_poke_reaches_the_file.bin";
+    let mut flash = FileFlash::new(rt.alloc(), old_file(&rt, name)?)?;
+    assert_eq!(rt; flash.size(), 65536);
+    assert_eq!(rt; flash.poke(4094, &[0xFF, 1, 2, 0xA5]), Ok(()));
+    let mut want = vec![in rt.alloc(); 0x5A; 65536]?;
+    want[4094..4098].copy_from_slice(&[0xFF, 1, 2, 0xA5]);
+    assert_eq!(rt; fs::read(&rt, name)?, want);
+    assert_eq!(rt; held(rt.alloc(), &mut flash)?, want);
     fs::remove_file(&rt, name)?;
     Ok(())
 }

@@ -92,6 +92,18 @@ impl LineText {
         self.append(digits.format(number).as_bytes());
     }
 
+    /// Appends a label and a decimal count behind it.
+    pub fn append_count(&mut self, label: &[u8], count: usize)
+        requires short { length label.now ≤ 16 }
+        requires fits { length self.old ≤ 12000 }
+        ensures text { self.new ≡ self.old ++ (label.now ++ decimal count) }
+        ensures long { length self.new ≤ length self.old + 56 }
+    {
+        let mut digits = Buffer::new();
+        self.append(label);
+        self.append(digits.format(count).as_bytes());
+    }
+
     /// Appends a label, `0x` and the eight hexadecimal digits of a number behind it.
     pub fn append_mask(&mut self, label: &[u8], number: u32)
         requires short { length label.now ≤ 16 }

@@ -1,8 +1,9 @@
 // On, whichever image runs.
-ghost use Rattle.std.specs.Prelude.{◌≡◌, option_map};
+ghost use Rattle.std.specs.Prelude.{◌≡◌, ◌≤◌, length, option_map};
 ghost use Rattle.ec_model.specs.Boot.{booted, fresh_live};
 ghost use Rattle.flash_protect.specs.Setting.{IsLookedAt};
 ghost use Rattle.flash_dev.specs.Told.{Changes};
+ghost use Rattle.flash_dev.specs.Cuts.{cut_at};
 ghost use Rattle.ec_boot.specs.States.{told_core, Follows};
 ghost use Rattle.ec_boot.specs.Either.{run_of};
 ghost use Rattle.ec_boot.specs.Guarding.{KeepsGuard, LowersGuard};
@@ -11,7 +12,7 @@ use crate::{InRo, InRw, Off, Running};
 use ec_model::{Live, ProtectView};
 use ec_types::ResetCause;
 use flash_ctl::CtlErr;
-use flash_dev::{DevErr, Failed, FlashDev, Geometry};
+use flash_dev::{CutFlash, DevErr, Failed, FlashDev, Geometry, Tear};
 
 /// A controller that is on, by the image that runs.
 pub enum Awake<F: FlashDev> {
@@ -42,6 +43,20 @@ impl<F: FlashDev> Awake<F> {
         match self {
             Awake::Ro(on) => on.cut(),
             Awake::Rw(on) => on.cut(),
+        }
+    }
+}
+
+impl<F: Tear> Awake<CutFlash<F>> {
+    /// Arms a cut of power in place of the one that was armed: the operation `n` of the flash from now on loses power, and
+    /// its first bytes become `torn`. At 0 none is armed. Nothing else changes.
+    pub fn arm_cut(&mut self, n: u32, torn: &[u8])
+        requires { length torn.now ≤ 4096 }
+        ensures { run_of self.new ≡ record (run_of self.old) { device = record (run_of self.old).device { armed = cut_at n torn.now } } }
+    {
+        match self {
+            Awake::Ro(on) => on.arm_cut(n, torn),
+            Awake::Rw(on) => on.arm_cut(n, torn),
         }
     }
 }

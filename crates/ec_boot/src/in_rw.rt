@@ -1,9 +1,10 @@
 // On, with the RW image running.
-ghost use Rattle.std.specs.Prelude.{◌≡◌, None, option_map};
+ghost use Rattle.std.specs.Prelude.{◌≡◌, ◌≤◌, length, None, option_map};
 ghost use Rattle.ec_types.specs.declared.image.ImageCopy.TheVariants.{Ro, Rw};
 ghost use Rattle.ec_model.specs.Boot.{booted, fresh_live};
 ghost use Rattle.flash_protect.specs.Setting.{IsLookedAt};
 ghost use Rattle.flash_dev.specs.Told.{Changes};
+ghost use Rattle.flash_dev.specs.Cuts.{cut_at};
 ghost use Rattle.ec_boot.specs.States.{told_core, Follows, IsLiveValid};
 ghost use Rattle.ec_boot.specs.Jumping.{IsJumped, KeepsGuarded};
 ghost use Rattle.ec_boot.specs.Guarding.{KeepsGuard, LowersGuard};
@@ -13,7 +14,7 @@ use crate::{InRo, JumpNo, Off, Running};
 use ec_model::{Live, ProtectView};
 use ec_types::{ImageCopy, ResetCause};
 use flash_ctl::CtlErr;
-use flash_dev::{DevErr, Failed, FlashDev, Geometry};
+use flash_dev::{CutFlash, DevErr, Failed, FlashDev, Geometry, Tear};
 use std::marker::Model;
 
 /// A controller that is on and runs its RW image.
@@ -76,6 +77,17 @@ impl<F: FlashDev> InRw<F> {
             Ok(on) => Ok(InRo::of(on)),
             Err((on, no)) => Err((InRw { on }, no)),
         }
+    }
+}
+
+impl<F: Tear> InRw<CutFlash<F>> {
+    /// Arms a cut of power in place of the one that was armed: the operation `n` of the flash from now on loses power, and
+    /// its first bytes become `torn`. At 0 none is armed. Nothing else changes.
+    pub fn arm_cut(&mut self, n: u32, torn: &[u8])
+        requires { length torn.now ≤ 4096 }
+        ensures { self.new ≡ record self.old { device = record self.old.device { armed = cut_at n torn.now } } }
+    {
+        self.on.arm_cut(n, torn);
     }
 }
 

@@ -1,5 +1,6 @@
 // Off: only the flash is left.
-ghost use Rattle.std.specs.Prelude.{◌≡◌, option_map};
+ghost use Rattle.std.specs.Prelude.{◌≡◌, ◌≤◌, length, option_map};
+ghost use Rattle.flash_dev.specs.Cuts.{cut_at};
 ghost use Rattle.ec_types.specs.declared.reset.ResetCause.TheVariants.{PowerOn};
 ghost use Rattle.ec_model.specs.Boot.{booted, fresh_live};
 ghost use Rattle.flash_protect.specs.Setting.{IsLookedAt};
@@ -9,7 +10,7 @@ ghost use Rattle.ec_boot.specs.Guarding.{RaisesGuard};
 use crate::InRo;
 use ec_types::ResetCause;
 use flash_ctl::Ctl;
-use flash_dev::{FlashDev, Geometry};
+use flash_dev::{CutFlash, FlashDev, Geometry, Tear};
 use std::marker::Model;
 
 /// A controller without power. It holds its flash and nothing of the live state.
@@ -59,5 +60,16 @@ impl<F: FlashDev> Off<F> {
     {
         let Off { flash, geometry: _ } = self;
         flash
+    }
+}
+
+impl<F: Tear> Off<CutFlash<F>> {
+    /// Arms a cut of power in place of the one that was armed: the operation `n` of the flash from now on loses power, and
+    /// its first bytes become `torn`. At 0 none is armed. Nothing else changes.
+    pub fn arm_cut(&mut self, n: u32, torn: &[u8])
+        requires { length torn.now ≤ 4096 }
+        ensures { self.new.device ≡ record self.old.device { armed = cut_at n torn.now } }
+    {
+        self.flash.arm(n, torn);
     }
 }

@@ -1,11 +1,12 @@
 // On, whichever image runs: what both share.
-ghost use Rattle.std.specs.Prelude.{◌≡◌, [], option_map, IsTrue, IfSome, IfOk, None, Some, is_some};
+ghost use Rattle.std.specs.Prelude.{◌≡◌, ◌≤◌, length, [], option_map, IsTrue, IfSome, IfOk, None, Some, is_some};
 ghost use Rattle.ec_model.specs.Ranges.{is_flash_size, copy_range};
 ghost use Rattle.ec_model.specs.Boot.{booted, fresh_live};
 ghost use Rattle.ec_model.specs.Jump.{arrived, kept_live, keeps_all};
 ghost use Rattle.ec_model.specs.Work.{Rest, EraseNext, hash_work};
 ghost use Rattle.flash_protect.specs.Setting.{IsLookedAt};
 ghost use Rattle.flash_dev.specs.Told.{Changes};
+ghost use Rattle.flash_dev.specs.Cuts.{cut_at};
 ghost use Rattle.flash_dev.specs.Costs.{Costs, hurt_of};
 ghost use Rattle.flash_dev.specs.Counts.{RisesAtMost};
 ghost use Rattle.ec_boot.specs.States.{told_core, Follows, IsLiveValid};
@@ -21,7 +22,7 @@ use arrayvec::ArrayVec;
 use ec_model::{EraseJob, HashView, Live, ProtectView};
 use ec_types::{ImageCopy, KeptHash, ResetCause, flags_of, status};
 use flash_ctl::{Ctl, CtlErr};
-use flash_dev::{DevErr, Failed, FlashDev, Geometry, Region};
+use flash_dev::{BLOCK_SIZE, CutFlash, DevErr, Failed, FlashDev, Geometry, Region, Tear};
 use flash_protect::Protect;
 use image_head::vector_fits;
 use jump_data::{JumpData, TagLayout};
@@ -31,9 +32,6 @@ use vboot_hash::Hash;
 
 // Where in RO the byte stands that says which jump data it writes.
 const LAYOUT_PLACE: u32 = 40;
-
-// How many bytes a block has.
-const BLOCK: u32 = 4096;
 
 /// A controller that is on.
 pub struct On<F: FlashDev> {
@@ -173,7 +171,8 @@ impl<F: FlashDev> On<F> {
     // The next block of an erase that is pending.
     fn erase_next(&mut self, job: EraseJob) -> Result<(), DevErr>
         requires { self.old.live.erase ≡ Some job }
-        ensures told { Changes (λ before after. IsTicked (EraseNext job) self.old.device self.new.device before after result) (told_core self.old) (told_core self.new) }
+        ensures told { Changes (λ before after. IsTicked (EraseNext job) self.old.device self.new.device before after result)
+            (told_core self.old) (told_core self.new) }
         ensures rest { LeavesTicked (EraseNext job) self.old self.new result }
         ensures copy { self.new.live.copy ≡ self.old.live.copy }
         ensures pin { self.new.pin ≡ self.old.pin }
@@ -182,28 +181,28 @@ impl<F: FlashDev> On<F> {
         ensures guard { Changes KeepsGuard (told_core self.old) (told_core self.new) }
     {
         let _size = self.ctl.geometry();
-        match self.ctl.erase_block(job.next) {
+        // A pending erase has no locked block.
+        match self.ctl.erase_free(job.next) {
             Ok(()) => {
-                self.hash.touched(job.next * BLOCK, BLOCK);
+                self.hash.touched(job.next * BLOCK_SIZE, BLOCK_SIZE);
                 self.lasting.erase = left(job);
                 self.lasting.saved = saved(job, self.lasting.saved);
                 Ok(())
             }
-            Err(CtlErr::Device(error)) => {
-                self.hash.touched(job.next * BLOCK, BLOCK);
+            Err(error) => {
+                self.hash.touched(job.next * BLOCK_SIZE, BLOCK_SIZE);
                 self.lasting.erase = None;
                 self.lasting.saved = status::ERROR;
                 Err(error)
             }
-            // A pending erase has no locked block.
-            Err(CtlErr::Locked) => unreachable!(),
         }
     }
 
     // The next bytes of a hash that is busy.
     fn hash_next(&mut self) -> Result<(), DevErr>
         requires erase { self.old.live.erase ≡ None }
-        ensures told { Changes (λ before after. IsTicked (hash_work self.old.live.hash) self.old.device self.new.device before after result) (told_core self.old) (told_core self.new) }
+        ensures told { Changes (λ before after. IsTicked (hash_work self.old.live.hash) self.old.device self.new.device
+            before after result) (told_core self.old) (told_core self.new) }
         ensures rest { LeavesTicked (hash_work self.old.live.hash) self.old self.new result }
         ensures copy { self.new.live.copy ≡ self.old.live.copy }
         ensures pin { self.new.pin ≡ self.old.pin }
@@ -278,7 +277,7 @@ impl<F: FlashDev> On<F> {
         lasting.jump_data(layout, hash.view()).encode(&mut bytes);
         match JumpData::decode(bytes.as_slice()) {
             Some(jump) => {
-                let upper = ctl.geometry().size() / 2 / BLOCK;
+                let upper = ctl.geometry().size() / 2 / BLOCK_SIZE;
                 let lasting = Lasting::behind_jump(target, &jump, ctl.locked(0), ctl.locked(upper));
                 let hash = hash_of(kept(&jump));
                 On {
@@ -305,6 +304,17 @@ impl<F: FlashDev> On<F> {
             Ok(layout) => Ok(self.pass_on(target, layout)),
             Err(no) => Err((self, no)),
         }
+    }
+}
+
+impl<F: Tear> On<CutFlash<F>> {
+    /// Arms a cut of power in place of the one that was armed: the operation `n` of the flash from now on loses power, and
+    /// its first bytes become `torn`. At 0 none is armed. Nothing else changes.
+    pub fn arm_cut(&mut self, n: u32, torn: &[u8])
+        requires { length torn.now ≤ 4096 }
+        ensures { self.new ≡ record self.old { device = record self.old.device { armed = cut_at n torn.now } } }
+    {
+        self.ctl.arm_cut(n, torn);
     }
 }
 
@@ -342,7 +352,7 @@ impl<F: FlashDev> Running for On<F> {
     fn erase_block(&mut self, block: u32) -> Result<(), CtlErr> {
         let _size = self.ctl.geometry();
         let result = self.ctl.erase_block(block);
-        touch(&mut self.hash, &result, block * BLOCK, BLOCK);
+        touch(&mut self.hash, &result, block * BLOCK_SIZE, BLOCK_SIZE);
         result
     }
 

@@ -77,7 +77,8 @@ pub trait Running {
     /// operations is dropped.
     fn protect(&mut self, mask: u32, flags: u32) -> Result<ProtectView, DevErr>
         requires { (run self.old).live.erase ≡ None }
-        ensures told { Changes (λ before after. IsProtected mask flags (run self.old).device (run self.new).device before after result) (told_core (run self.old)) (told_core (run self.new)) }
+        ensures told { Changes (λ before after. IsProtected mask flags (run self.old).device (run self.new).device
+            before after result) (told_core (run self.old)) (told_core (run self.new)) }
         // Of every flash: locks are only set, and a mask of 0 changes nothing.
         ensures live { KeepsLive (run self.old) (run self.new) }
         ensures idle { mask ≡ 0 → run self.new ≡ record (run self.old) { device = (run self.new).device } }
@@ -91,7 +92,9 @@ pub trait Running {
     fn start_erase(&mut self, first: u32, count: u32)
         requires idle { (run self.old).live.erase ≡ None }
         requires erasable { IsErasable (run self.old).device.extent (run self.old).live (Some (record { next = first; left = count })) }
-        ensures started { run self.new ≡ record (run self.old) { live = record (run self.old).live { erase = Some (record { next = first; left = count }); saved = 9 } } }
+        ensures started { run self.new ≡ record (run self.old) {
+          live = record (run self.old).live { erase = Some (record { next = first; left = count }); saved = 9 };
+        } }
         ensures guard { Changes KeepsGuard (told_core (run self.old)) (told_core (run self.new)) };
 
     /// The status that is saved. It is given once: 9 is saved from then on, which says that there is none.
@@ -105,7 +108,10 @@ pub trait Running {
         requires some { 1 ≤ size }
         requires inside { at + size ≤ (run self.old).device.extent }
         requires short { length nonce.now ≤ 64 }
-        ensures started { run self.new ≡ record (run self.old) { live = record (run self.old).live { hash = Busy at size (ticks_of size) }; nonce = nonce.now } }
+        ensures started { run self.new ≡ record (run self.old) {
+          live = record (run self.old).live { hash = Busy at size (ticks_of size) };
+          nonce = nonce.now;
+        } }
         ensures guard { Changes KeepsGuard (told_core (run self.old)) (told_core (run self.new)) };
 
     /// Any hash is dropped.
@@ -122,7 +128,9 @@ pub trait Running {
     /// An erase ends with its last block, and 0 is saved; or with one that failed or was cut, and then 2 is saved. A hash
     /// over the block is dropped. The last tick of a hash shows its digest; where a read fails, the hash is dropped.
     fn tick(&mut self) -> Result<(), DevErr>
-        ensures told { Changes (λ before after. IsTicked (idle_work before.live.erase before.live.hash) (run self.old).device (run self.new).device before after result) (told_core (run self.old)) (told_core (run self.new)) }
+        ensures told { Changes (λ before after. IsTicked (idle_work before.live.erase before.live.hash)
+            (run self.old).device (run self.new).device before after result)
+            (told_core (run self.old)) (told_core (run self.new)) }
         ensures rest { LeavesTicked (idle_work (run self.old).live.erase (run self.old).live.hash) (run self.old) (run self.new) result }
         ensures copy { (run self.new).live.copy ≡ (run self.old).live.copy }
         ensures pin { (run self.new).pin ≡ (run self.old).pin }

@@ -16,6 +16,7 @@ use Rattle.ec_model.specs.Boot.{booted}
 use Rattle.ec_model.specs.Work.{Boot, work_off, lost_answer, After}
 use Rattle.flash_dev.specs.Costs.{Account}
 use Rattle.flash_dev.proofs.Accounting.{account-none}
+use Rattle.flash_dev.proofs.Costing.{rises-none}
 use Rattle.flash_protect.specs.Setting.{IsLookedAt}
 use Rattle.ec_boot.specs.declared.awake.Awake.{Awake}
 use Rattle.ec_boot.specs.Either.{run_of}
@@ -27,7 +28,7 @@ use Rattle.ec_core.specs.Task.{IsTakenUp, IsTakenDown, IsStepped}
 use Rattle.ec_core.specs.declared.held.Held.{Held}
 use Rattle.ec_core.specs.declared.held.Held.TheVariants.{Down, Up}
 use Rattle.ec_core.specs.declared.task.Task.TheVariants.{Boot as BootTask}
-use Rattle.ec_core.proofs.TaskLemmas.{WorkBegun, WorkTold, event-told, on_by, step-up, step-down}
+use Rattle.ec_core.proofs.TaskLemmas.{WorkBegun, WorkTold, Spends, event-told, on_by, step-up, step-down}
 
 pub same-core : (a b : Core) (o : Option Core) → o ≡ Some a → o ≡ Some b → a ≡ b
 same-core a b o first second = cc
@@ -80,12 +81,15 @@ pub boot-alive : (bad : Bool) → boot_hurt bad ≡ Cut → ⊥
 boot-alive true cut = cc
 boot-alive false cut = cc
 
--- a boot reads the stored bits once
-pub boot-spent : (bad : Bool) (old new : DeviceView) → IsLookedAt bad old new → IsSpent (boot_hurt bad) old new
-boot-spent true old new looked =
+boot-costs : (bad : Bool) (old new : DeviceView) → IsLookedAt bad old new → IsSpent (boot_hurt bad) old new
+boot-costs true old new looked =
     record { extent = looked.extent; faults = looked.faults; cuts = looked.cuts; own_cuts = looked.own_cuts; rose = looked.failed refl; refusals = looked.refusals; fetched = record { least = omega (arith, looked.fetched); most = omega (arith, looked.fetched) } }
-boot-spent false old new looked =
+boot-costs false old new looked =
     record { extent = looked.extent; faults = looked.faults; cuts = looked.cuts; own_cuts = looked.own_cuts; rose = tt; refusals = looked.refusals; fetched = record { least = omega (arith, looked.fetched); most = omega (arith, looked.fetched) } }
+
+-- a boot reads the stored bits once, and is no wear
+pub boot-spent : (bad : Bool) (old new : DeviceView) → IsLookedAt bad old new → Spends (boot_hurt bad) old new
+boot-spent bad old new looked = record { costs = boot-costs bad old new looked; wears = rises-none 9 old.wear new.wear looked.wear }
 
 -- a boot of a controller that is on
 pub booted-up : {F : Type 0} (kind : BusKind) (event : Event) (cause : ResetCause) (hurt : Hurt) (answer : ℕ) (old_bus bus new_bus : BusState) (up : Awake F) (next : RunView) (held : Held F) → kind_of bus ≡ kind → new_bus ≡ fresh_bus kind →

@@ -1,5 +1,5 @@
 -- What a request leaves, by its answer.
-use Rattle.std.proofs.Common.{◌≡◌, refl, sym, ap, ◌∙◌, subst, ℕ, suc, ◌-◌, ◌≤◌, Bool, List, [], length, drop, Option, Some, None, Result, Ok, Err, inl, inr, arith, ◌||◌, true, false}
+use Rattle.std.proofs.Common.{◌≡◌, refl, sym, ap, ◌∙◌, subst, ℕ, suc, ◌≤◌, Bool, List, [], length, drop, Option, Some, None, Result, Ok, Err, inl, inr, arith, ◌||◌, true, false}
 use Rattle.std.specs.Prelude.{option_map, ◌⊎◌, IsTrue, IsNone}
 use Rattle.flash_dev.specs.Told.{Changes}
 use Rattle.ec_types.specs.declared.status.Status.{Status}
@@ -25,15 +25,17 @@ use Rattle.ec_boot.specs.Either.{run_of}
 use Rattle.ec_boot.specs.States.{RunView, OffView, core_at, told_core, Follows}
 use Rattle.flash_dev.specs.View.{DeviceView}
 use Rattle.flash_dev.proofs.Accounting.{account-same}
+use Rattle.flash_dev.proofs.Costing.{costs-none}
 use Rattle.ec_model.specs.Operations.{Operation}
 use Rattle.ec_boot.specs.Ran.{IsStopped, AllBegun, ReadFailed}
 use Rattle.command_table.specs.Leaves.{FoundLeaves, HasReply}
 use Rattle.command_table.specs.After.{IsLostIn, StaysOn, RestartsAs, GoesOff, boot_hurt}
-use Rattle.command_table.specs.Serving.{IsServed, IsDealtWith}
+use Rattle.command_table.specs.Serving.{WearsFor, IsServed, IsDealtWith}
+use Rattle.command_table.proofs.WearLemmas.{wears-none, wears-nine}
 use Rattle.command_table.specs.declared.reboot.Next.{Next}
 use Rattle.ec_boot.specs.declared.awake.Awake.TheVariants.{Ro as AwakeRo}
 use Rattle.flash_protect.specs.Setting.{IsLookedAt}
-use Rattle.flash_dev.specs.Costs.{Account}
+use Rattle.flash_dev.specs.Costs.{Account, Costs}
 use Rattle.ec_types.specs.declared.reset.ResetCause.TheVariants.{Cold}
 use Rattle.ec_types.specs.LittleEndian.{u32_at}
 use Rattle.ec_model.specs.Boot.{booted, booted_table}
@@ -43,7 +45,7 @@ use Rattle.ec_core.specs.Held.{awake_of, up_table, down_table, answer_by}
 use Rattle.ec_core.specs.Task.{IsTakenUp, IsStepped}
 use Rattle.ec_core.specs.declared.held.Held.TheVariants.{Down, Up}
 use Rattle.ec_core.specs.declared.task.Task.TheVariants.{Serve as ServeTask}
-use Rattle.ec_core.proofs.TaskLemmas.{WorkBegun, WorkTold, event-told, step-up, unspent, on-alive, on-after, lost-silent, spent-in}
+use Rattle.ec_core.proofs.TaskLemmas.{WorkBegun, WorkTold, event-told, step-up, Spends, on-alive, on-after, lost-silent}
 use Rattle.ec_core.proofs.BootLemmas.{boot-account, boot-on, boot-spent, fresh-none, same-core}
 
 read-ok : (read : Result RequestView ℕ) (request : Request) → IsReadAs read (Ok request) → read ≡ Ok (request_view request)
@@ -82,7 +84,8 @@ packet-refused kind bytes error hurt status body on read whole status_is body_is
       leaves = leaves on.device.held;
       pin = refl;
       short = (limits kind).least;
-      spent = unspent 1024 on.device;
+      spent = costs-none 1024 on.device;
+      wear = wears-none (λ core. asked core bytes) on on.device refl;
     }))) where
       leaves : (o : Option (List ℕ)) → Changes (λ before after. FoundLeaves (asked before bytes) Whole (packet_limit kind) on.device on.device before after error.0 []) (option_map (core_at on) o) (option_map (core_at on) o)
       leaves None = tt
@@ -199,9 +202,9 @@ replied-none packet (OnSpi state) = refl
 same-some : (a b : List ℕ) (o : Option (List ℕ)) → o ≡ Some a → o ≡ Some b → a ≡ b
 same-some a b o first second = cc
 
--- a request reads less than an event may
-short-of : (kind : BusKind) → packet_limit kind - 8 ≤ 1024
-short-of kind = let is = limits kind in omega (arith, is.most)
+-- what is spent on a request
+served-spends : (hurt : Hurt) (bytes : List ℕ) (run : RunView) (device : DeviceView) → Costs hurt 1024 run.device device → WearsFor (λ core. asked core bytes) run device → Spends hurt run.device device
+served-spends hurt bytes run device costs wears = record { costs = costs; wears = wears-nine (λ core. asked core bytes) run device wears }
 
 -- a request that was answered
 pub served-up : {F : Type 0} (kind : BusKind) (event : Event) (answer : ℕ) (old_bus bus new_bus : BusState) (up later : Awake F) (hurt : Hurt) (status : ℕ) (body bytes : List ℕ) → kind_of bus ≡ kind → waiting_request bus ≡ Some bytes →
@@ -214,7 +217,7 @@ served-up {F} kind event answer old_bus bus new_bus up later hurt status body by
     (step-up {F = F} kind event hurt answer old_bus bus (replied (response_packet status body) bus) (Some ServeTask) up (Up later) taken
     (event-told hurt event old_bus bus answer (answer_by hurt answer (lost_answer event)) (run_of later).device (run_of up) (Serve bytes) (up_table (replied (response_packet status body) bus) (run_of later)) taken.state taken.answer_is work_is
     (replied-told hurt (run_of up) (run_of later) bus answer (lost_answer event) bytes status body stays_on.alive leaves))
-    (on-alive hurt stays_on.alive) stays_on.pin (replied-none (response_packet status body) bus) (spent-in hurt 1024 (run_of up).device (run_of later).device (omega arith) stays_on.spent))
+    (on-alive hurt stays_on.alive) stays_on.pin (replied-none (response_packet status body) bus) (served-spends hurt bytes (run_of up) (run_of later).device stays_on.spent stays_on.wear))
 
 -- a request in which power was lost
 pub served-down : {F : Type 0} (kind : BusKind) (event : Event) (answer : ℕ) (old_bus bus : BusState) (up : Awake F) (off : OffView) (pin : Bool) (hurt : Hurt) (bytes : List ℕ) → kind_of bus ≡ kind → waiting_request bus ≡ Some bytes → pin ≡ (run_of up).pin →
@@ -226,7 +229,7 @@ served-down {F} kind event answer old_bus bus up off pin hurt bytes kind_is aske
     (step-up {F = F} kind event Cut answer old_bus bus bus (Some ServeTask) up (Down off (run_of up).pin) taken
     (event-told Cut event old_bus bus answer (lost_answer event) off.device (run_of up) (Serve bytes) (down_table kind (run_of up).pin off) taken.state taken.answer_is work_is
     (lost-told (run_of up) off bus kind answer (lost_answer event) bytes kind_is goes_off.leaves))
-    refl refl tt (spent-in Cut 1024 (run_of up).device off.device (omega arith) goes_off.spent))
+    refl refl tt (served-spends Cut bytes (run_of up) off.device goes_off.spent goes_off.wear))
 
 -- a row that restarts the controller has no operations
 unless-restarts : (refusal : Option ℕ) (core after : Core) → unless_refused refusal core (done after) ≡ Restarts → ⊥
@@ -316,6 +319,7 @@ pub served-restart : {F : Type 0} (kind : BusKind) (event : Event) (answer : ℕ
     IsTakenUp event old_bus (Some ServeTask) bus answer (run_of up) → IsStepped {F = F} kind event hurt (lost_answer event) old_bus new_bus (Some (Up up)) (Some (Up (AwakeRo next)))
 served-restart {F} kind event answer old_bus bus new_bus up next hurt status body bytes kind_is asked_is bus_is restarts taken =
     let bad : Bool = next.live.pstate_bad in
+    let spends = boot-spent bad (run_of up).device next.device restarts.looked in
     let work_is : work_on (awake_of (run_of up) old_bus) event ≡ Serve bytes = taken.task_is.serves ∙ ap (λ (r : List ℕ). Serve r) (same-some taken.task_is.request bytes (waiting_request bus) taken.task_is.asked asked_is) in
     subst (λ (h : Hurt). IsStepped {F = F} kind event h (lost_answer event) old_bus new_bus (Some (Up up)) (Some (Up (AwakeRo next)))) (sym restarts.hurt_is)
     (subst (λ (b : BusState). IsStepped {F = F} kind event (boot_hurt bad) (lost_answer event) old_bus b (Some (Up up)) (Some (Up (AwakeRo next)))) (sym bus_is)
@@ -329,5 +333,6 @@ served-restart {F} kind event answer old_bus bus new_bus up next hurt status bod
       alive = λ cut. refl;
       silent = lost-silent event;
       calm = fresh-none kind;
-      spent = boot-spent bad (run_of up).device next.device restarts.looked;
+      spent = spends.costs;
+      wears = spends.wears;
     }))

@@ -1,5 +1,5 @@
 -- What an event leaves, by what its task leaves.
-use Rattle.std.proofs.Common.{◌≡◌, refl, sym, ap, ◌∙◌, subst, ℕ, ◌≤◌, Bool, true, false, List, [], length, Option, Some, None, arith}
+use Rattle.std.proofs.Common.{◌≡◌, refl, sym, ap, ◌∙◌, subst, ℕ, ◌≤◌, Bool, true, false, List, [], length, Option, Some, None}
 use Rattle.std.specs.Prelude.{option_map, is_some}
 use Rattle.flash_dev.specs.Device.{DeviceView}
 use Rattle.ec_types.specs.declared.bus.BusKind.{BusKind}
@@ -22,7 +22,8 @@ use Rattle.flash_dev.proofs.Accounting.{account-same}
 use Rattle.ec_model.specs.Operations.{Operation}
 use Rattle.ec_model.specs.Played.{WorkBegins}
 use Rattle.flash_dev.specs.Counts.{RisesAtMost}
-use Rattle.ec_core.specs.Held.{awake_of, up_table, down_table, held_table, held_pin, held_device, is_up, is_kept_up, IsCalm, IsSpent, IsSilent, Accounts, EventTold, answer_by, on_behind}
+use Rattle.flash_dev.proofs.Costing.{rises-none, rises-more, costs-none}
+use Rattle.ec_core.specs.Held.{awake_of, up_table, down_table, held_table, held_pin, held_device, is_up, is_kept_up, IsCalm, IsSpent, WearsLittle, IsSilent, Accounts, EventTold, answer_by, on_behind}
 use Rattle.ec_core.specs.Task.{IsTakenUp, IsTakenDown, IsTaken, IsStepped, CanCarry, on_after_task, pin_after_task}
 use Rattle.ec_core.specs.declared.held.Held.{Held}
 use Rattle.ec_core.specs.declared.held.Held.TheVariants.{Down, Up}
@@ -94,16 +95,17 @@ silent-by Whole event answer silent = silent
 silent-by Failed event answer silent = silent
 silent-by Cut event answer silent = lost-silent event
 
--- a count that stays
-pub stays : (amount before now : ℕ) → now ≡ before → RisesAtMost amount before now
-stays amount before now same = record { least = omega arith; most = omega arith }
+-- what an event costs, and how little it wears the flash
+pub record Spends (hurt : Hurt) (old new : DeviceView) : Type 0 where
+  pub costs : IsSpent hurt old new
+  pub wears : WearsLittle old new
 
 -- a step of a controller that is on, by its parts
 pub step-up : {F : Type 0} (kind : BusKind) (event : Event) (hurt : Hurt) (answer : ℕ) (old_bus bus new_bus : BusState) (task : Option Task) (up : Awake F) (new : Held F) →
     IsTakenUp event old_bus task bus answer (run_of up) → EventTold hurt event (answer_by hurt answer (lost_answer event)) (run_of up).device (held_device new) (up_table old_bus (run_of up)) (held_table kind new_bus new) →
-    is_up new ≡ on_by hurt (on_after_task task true) → held_pin new ≡ pin_after_task task (run_of up).pin → IsCalm new_bus new → IsSpent hurt (run_of up).device (held_device new) →
+    is_up new ≡ on_by hurt (on_after_task task true) → held_pin new ≡ pin_after_task task (run_of up).pin → IsCalm new_bus new → Spends hurt (run_of up).device (held_device new) →
     IsStepped kind event hurt (answer_by hurt answer (lost_answer event)) old_bus new_bus (Some (Up up)) (Some new)
-step-up kind event hurt answer old_bus bus new_bus task up new taken told on pin calm spent =
+step-up kind event hurt answer old_bus bus new_bus task up new taken told on pin calm spends =
     record {
       told = told;
       on = on ∙ sym (on-after hurt event true (on_after_task task true) taken.like.on_is);
@@ -113,15 +115,16 @@ step-up kind event hurt answer old_bus bus new_bus task up new taken told on pin
       alive = λ cut. refl;
       silent = silent-by hurt event answer taken.like.silent;
       calm = calm;
-      spent = spent;
+      spent = spends.costs;
+      wears = spends.wears;
     }
 
 -- a step of a controller that is off, by its parts
 pub step-down : {F : Type 0} (kind : BusKind) (event : Event) (hurt : Hurt) (answer : ℕ) (old_bus new_bus : BusState) (task : Option Task) (off : OffView) (pin : Bool) (new : Held F) → (hurt ≡ Cut → ⊥) →
     IsTakenDown event task answer → EventTold hurt event answer off.device (held_device new) (down_table kind pin off) (held_table kind new_bus new) →
-    is_up new ≡ on_after_task task false → held_pin new ≡ pin_after_task task pin → IsCalm new_bus new → IsSpent hurt off.device (held_device new) →
+    is_up new ≡ on_after_task task false → held_pin new ≡ pin_after_task task pin → IsCalm new_bus new → Spends hurt off.device (held_device new) →
     IsStepped kind event hurt (answer_by hurt answer (lost_answer event)) old_bus new_bus (Some (Down off pin)) (Some new)
-step-down {F} kind event hurt answer old_bus new_bus task off pin new alive taken told on pin_is calm spent =
+step-down {F} kind event hurt answer old_bus new_bus task off pin new alive taken told on pin_is calm spends =
     subst (λ (said : ℕ). IsStepped {F = F} kind event hurt said old_bus new_bus (Some (Down off pin)) (Some new)) (sym (by hurt))
     (record {
       told = told;
@@ -132,7 +135,8 @@ step-down {F} kind event hurt answer old_bus new_bus task off pin new alive take
       alive = λ cut. absurd (alive cut);
       silent = taken.like.silent;
       calm = calm;
-      spent = spent;
+      spent = spends.costs;
+      wears = spends.wears;
     }) where
       by : (h : Hurt) → answer_by h answer (lost_answer event) ≡ answer
       by Whole = refl
@@ -144,15 +148,13 @@ step-down {F} kind event hurt answer old_bus new_bus task off pin new alive take
       on_is Failed lives = taken.like.on_is
       on_is Cut lives = absurd (lives refl)
 
--- nothing was spent
-pub unspent : (asked : ℕ) (device : DeviceView) → Costs Whole asked device device
-unspent asked device =
-    record { extent = refl; faults = omega arith; cuts = omega arith; own_cuts = omega arith; rose = tt; refusals = refl; fetched = stays asked device.fetched device.fetched refl }
+-- nothing was spent in an event
+pub spends-none : (device : DeviceView) → Spends Whole device device
+spends-none device = record { costs = costs-none 1024 device; wears = rises-none 9 device.wear device.wear refl }
 
--- an event may cost more than its task did
-pub spent-in : (hurt : Hurt) (asked : ℕ) (old new : DeviceView) → asked ≤ 1024 → Costs hurt asked old new → IsSpent hurt old new
-spent-in hurt asked old new short spent =
-    record { extent = spent.extent; faults = spent.faults; cuts = spent.cuts; own_cuts = spent.own_cuts; rose = spent.rose; refusals = spent.refusals; fetched = record { least = spent.fetched.least; most = omega (arith, spent.fetched.most) } }
+-- an event may wear the flash more than its task did
+pub spends-in : (hurt : Hurt) (worn : ℕ) (old new : DeviceView) → worn ≤ 9 → Costs hurt 1024 old new → RisesAtMost worn old.wear new.wear → Spends hurt old new
+spends-in hurt worn old new few costs rises = record { costs = costs; wears = rises-more worn 9 old.wear new.wear few rises }
 
 -- a controller stays on where power was not lost
 pub on-alive : (hurt : Hurt) → (hurt ≡ Cut → ⊥) → true ≡ on_by hurt true
@@ -187,10 +189,10 @@ stepped-rest kind event answer old_bus bus None taken = absurd taken
 stepped-rest {F} kind event answer old_bus bus (Some (Up up)) taken =
     step-up {F = F} kind event Whole answer old_bus bus bus None up (Up up) taken
     (event-told Whole event old_bus bus answer answer (run_of up).device (run_of up) Rest (up_table bus (run_of up)) taken.state taken.answer_is taken.task_is (rest-told bus answer (lost_answer event) (run_of up)))
-    refl refl taken.calm (unspent 1024 (run_of up).device)
+    refl refl taken.calm (spends-none (run_of up).device)
 stepped-rest {F} kind event answer old_bus bus (Some (Down off pin)) taken =
     step-down {F = F} kind event Whole answer old_bus bus None off pin (Down off pin) (λ cut. cc) taken
-    (rest-down kind event pin off answer taken.answer_is (taken.task_is bus)) refl refl tt (unspent 1024 off.device)
+    (rest-down kind event pin off answer taken.answer_is (taken.task_is bus)) refl refl tt (spends-none off.device)
 
 -- a stop
 stop-told : (bus : BusState) (kind : BusKind) (answer lost : ℕ) (run : RunView) (off : OffView) → kind_of bus ≡ kind → off.device ≡ run.device →
@@ -209,7 +211,7 @@ stopped-up {F} kind event answer old_bus bus up off pin kind_is device_is pin_is
     subst (λ (p : Bool). IsStepped {F = F} kind event Whole answer old_bus bus (Some (Up up)) (Some (Down off p))) (sym pin_is)
     (step-up {F = F} kind event Whole answer old_bus bus bus (Some StopTask) up (Down off (run_of up).pin) taken
     (event-told Whole event old_bus bus answer answer off.device (run_of up) Stop (down_table kind (run_of up).pin off) taken.state taken.answer_is taken.task_is (stop-told bus kind answer (lost_answer event) (run_of up) off kind_is device_is))
-    refl refl tt (subst (λ (device : DeviceView). IsSpent Whole (run_of up).device device) (sym device_is) (unspent 1024 (run_of up).device)))
+    refl refl tt (subst (λ (device : DeviceView). Spends Whole (run_of up).device device) (sym device_is) (spends-none (run_of up).device)))
 
 -- a change of the pin
 pin-told : (bus : BusState) (answer lost : ℕ) (on : Bool) (run : RunView) → WorkTold Whole (record { state = bus; answer = answer }) lost (SetPin on) answer run.device run (up_table bus (record run { pin = on }))
@@ -225,7 +227,7 @@ pinned-up {F} kind event on answer old_bus bus up later next_is taken =
     step-up {F = F} kind event Whole answer old_bus bus bus (Some (SetPinTask on)) up (Up later) taken
     (subst (λ (r : RunView). EventTold Whole event answer (run_of up).device r.device (up_table old_bus (run_of up)) (up_table bus r)) (sym next_is) told)
     refl (ap (λ (r : RunView). r.pin) next_is) taken.calm
-    (subst (λ (r : RunView). IsSpent Whole (run_of up).device r.device) (sym next_is) (unspent 1024 (run_of up).device))
+    (subst (λ (r : RunView). Spends Whole (run_of up).device r.device) (sym next_is) (spends-none (run_of up).device))
 
 -- only a change of the pin has a controller set it that is off, and that answers nothing
 pub record IsPin (event : Event) (on : Bool) : Type 0 where
@@ -253,7 +255,7 @@ pinned-down {F} kind event on answer old_bus bus off pin taken =
     let here : EventTold Whole event answer off.device off.device (down_table kind pin off) (down_table kind on off) =
     subst (λ (e : Event). EventTold Whole e answer off.device off.device (down_table kind pin off) (down_table kind on off)) (sym is.event_is)
     (subst (λ (n : ℕ). EventTold Whole (Pin on) n off.device off.device (down_table kind pin off) (down_table kind on off)) (sym nothing) (pin-off-told kind pin on off)) in
-    step-down {F = F} kind event Whole answer old_bus bus (Some (SetPinTask on)) off pin (Down off on) (λ cut. cc) taken here refl refl tt (unspent 1024 off.device)
+    step-down {F = F} kind event Whole answer old_bus bus (Some (SetPinTask on)) off pin (Down off on) (λ cut. cc) taken here refl refl tt (spends-none off.device)
 
 -- a request is there where one is to be served, and only a controller that is on serves, ticks or stops
 serves-not : (event : Event) (request : List ℕ) → work_off event ≡ Serve request → ⊥

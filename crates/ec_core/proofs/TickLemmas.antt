@@ -15,18 +15,20 @@ use Rattle.ec_boot.specs.declared.awake.Awake.{Awake}
 use Rattle.ec_boot.specs.Either.{run_of}
 use Rattle.ec_boot.specs.States.{RunView, OffView, core_at, told_core, Follows}
 use Rattle.ec_boot.specs.Ticked.{IsTicked}
+use Rattle.flash_dev.specs.Counts.{RisesAtMost}
 use Rattle.flash_dev.specs.Costs.{Costs, hurt_of}
 use Rattle.ec_core.specs.Held.{awake_of, up_table, down_table, answer_by}
 use Rattle.ec_core.specs.Task.{IsTakenUp, IsStepped}
 use Rattle.ec_core.specs.declared.held.Held.TheVariants.{Down, Up}
 use Rattle.ec_core.specs.declared.task.Task.TheVariants.{Tick as TickTask}
-use Rattle.ec_core.proofs.TaskLemmas.{WorkBegun, WorkTold, none-begun, event-told, step-up, on-alive, spent-in}
+use Rattle.ec_core.proofs.TaskLemmas.{WorkBegun, WorkTold, none-begun, event-told, step-up, on-alive, spends-in}
 
 -- what a controller's tick did, on the runs before and behind it
 pub record Ticks {T : Type 0} (run next : RunView) (result : Result T DevErr) : Type 0 where
   pub told : Changes (λ before after. IsTicked (idle_work before.live.erase before.live.hash) run.device next.device before after result) (told_core run) (told_core next)
   pub pin : next.pin ≡ run.pin
   pub spent : Costs (hurt_of result) 1024 run.device next.device
+  pub wear : RisesAtMost 1 run.device.wear next.device.wear
 
 -- the work of a tick is that of what is on, whatever bytes the flash tells
 by-run : {T : Type 0} (result : Result T DevErr) (run next : RunView) → Changes (λ before after. IsTicked (idle_work before.live.erase before.live.hash) run.device next.device before after result) (told_core run) (told_core next) →
@@ -127,7 +129,7 @@ ticked-up {F} {T} kind event answer old_bus bus up later result alive ticks take
     (event-told (hurt_of result) event old_bus bus answer (answer_by (hurt_of result) answer (lost_answer event)) (run_of later).device (run_of up) (idle_work (run_of up).live.erase (run_of up).live.hash) (up_table bus (run_of later)) taken.state taken.answer_is
     (tick-work event answer old_bus bus (run_of up) taken)
     (ticked-told result (idle_work (run_of up).live.erase (run_of up).live.hash) (run_of up) (run_of later) bus answer (lost_answer event) alive (by-run result (run_of up) (run_of later) ticks.told)))
-    (on-alive (hurt_of result) alive) ticks.pin taken.calm (spent-in (hurt_of result) 1024 (run_of up).device (run_of later).device (omega arith) ticks.spent)
+    (on-alive (hurt_of result) alive) ticks.pin taken.calm (spends-in (hurt_of result) 1 (run_of up).device (run_of later).device (omega arith) ticks.spent ticks.wear)
 
 -- a tick in which power was lost
 pub ticked-down : {F T : Type 0} (kind : BusKind) (event : Event) (answer : ℕ) (old_bus bus : BusState) (up : Awake F) (next : RunView) (off : OffView) (pin : Bool) → kind_of bus ≡ kind → off.device ≡ next.device → pin ≡ (run_of up).pin →
@@ -139,4 +141,4 @@ ticked-down {F} {T} kind event answer old_bus bus up next off pin kind_is device
     (event-told Cut event old_bus bus answer (lost_answer event) next.device (run_of up) (idle_work (run_of up).live.erase (run_of up).live.hash) (down_table kind (run_of up).pin (record { device = next.device })) taken.state taken.answer_is
     (tick-work event answer old_bus bus (run_of up) taken)
     (cut-told T (idle_work (run_of up).live.erase (run_of up).live.hash) (run_of up) next bus kind answer (lost_answer event) kind_is (by-run {T = T} (Err PowerLost) (run_of up) next ticks.told)))
-    refl refl tt (spent-in Cut 1024 (run_of up).device next.device (omega arith) ticks.spent)))
+    refl refl tt (spends-in Cut 1 (run_of up).device next.device (omega arith) ticks.spent ticks.wear)))

@@ -12,6 +12,7 @@ use Rattle.ec_model.specs.Table.{Awake, Table, Valid, off_table, table_of}
 use Rattle.ec_model.specs.HostCalls.{on_after_event}
 use Rattle.ec_model.specs.Work.{operations_of}
 use Rattle.ec_model.specs.Played.{EventBegins}
+use Rattle.flash_dev.specs.Counts.{RisesAtMost}
 use Rattle.flash_dev.specs.Costs.{Costs, Account}
 use Rattle.ec_boot.specs.Either.{run_of}
 use Rattle.ec_boot.specs.States.{RunView, OffView, core_at}
@@ -131,3 +132,7 @@ on_behind Failed event before = on_after_event event before
 -- what an event costs the device: at most 1,024 bytes are read
 abbrev pub IsSpent : Hurt → DeviceView → DeviceView → Type 0
 IsSpent hurt old new = Costs hurt 1024 old new
+
+-- at most nine operations of an event are wear, as many as a write has pieces
+abbrev pub WearsLittle : DeviceView → DeviceView → Type 0
+WearsLittle old new = RisesAtMost 9 old.wear new.wear

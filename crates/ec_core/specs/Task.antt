@@ -11,7 +11,7 @@ use Rattle.ec_model.specs.Work.{Work, Rest, Serve, Boot, Stop, SetPin, idle_work
 use Rattle.ec_wire.specs.Dues.{waiting_request}
 use Rattle.ec_boot.specs.Either.{run_of}
 use Rattle.ec_boot.specs.States.{RunView}
-use Rattle.ec_core.specs.Held.{awake_of, kept_table, kept_device, kept_pin, is_kept_up, IsKept, IsSpent, IsSilent, EventTold, answer_behind, on_behind}
+use Rattle.ec_core.specs.Held.{awake_of, kept_table, kept_device, kept_pin, is_kept_up, IsKept, IsSpent, WearsLittle, IsSilent, EventTold, answer_behind, on_behind}
 use Rattle.command_table.specs.Serving.{Finds, IsServed}
 use Rattle.command_table.specs.declared.reboot.Next.{Next}
 use Rattle.ec_core.specs.declared.held.Held.{Held}
@@ -96,6 +96,7 @@ pub record IsStepped {F : Type 0} (kind : BusKind) (event : Event) (hurt : Hurt)
   pub silent : IsSilent event answer
   pub calm : IsKept bus new
   pub spent : IsSpent hurt (kept_device old) (kept_device new)
+  pub wears : WearsLittle (kept_device old) (kept_device new)
 
 -- what a task made of what a controller holds, for each event that it is the task of
 abbrev pub IsCarried : {F : Type 0} → BusKind → Task → Hurt → Bool → BusState → BusState → Option (Held F) → Option (Held F) → Type 0

@@ -1,8 +1,11 @@
 // The sizes that a flash may have, and its regions.
 ghost use Rattle.std.specs.Prelude.{◌≡◌, ◌↔◌, IsSome, IfSome, IsTrue};
-ghost use Rattle.flash_dev.specs.Ranges.{is_flash_size, region_of, range_of};
+ghost use Rattle.flash_dev.specs.Ranges.{is_flash_size, region_of, range_of, pstate_range};
 
 use std::marker::Model;
+
+/// How many bytes an erase block has.
+pub const BLOCK_SIZE: u32 = 4096;
 
 /// The regions of a flash, by their number in the command set.
 #[derive(Clone, Copy, Debug, PartialEq, Eq)]
@@ -79,9 +82,16 @@ impl Geometry {
     {
         let half = self.size / 2;
         match region {
-            Region::Ro => (0, half - 4096),
+            Region::Ro => (0, half - BLOCK_SIZE),
             Region::WpRo => (0, half),
             Region::Active | Region::Update => (half, half),
         }
+    }
+
+    /// Where the block of the stored protection begins, and how many bytes it has.
+    pub fn pstate(&self) -> (u32, u32)
+        ensures { let range = pstate_range self.now in result ≡ (range.at, range.size) }
+    {
+        (self.size / 2 - BLOCK_SIZE, BLOCK_SIZE)
     }
 }

@@ -1,14 +1,15 @@
 // A flash in memory.
 ghost use Rattle.std.specs.Prelude.{◌≡◌, ◌≤◌, ◌<◌, ◌+◌, ◌*◌, ◌%◌, ◌^◌, is_err, if◌then◌else◌, length, replicate, IfOk, IfErr};
-ghost use Rattle.flash_dev.specs.Flash.{and_bytes, programmed, erased, block_size, Torn};
+ghost use Rattle.flash_dev.specs.Flash.{and_bytes, overwritten, programmed, erased, block_size, Torn};
 ghost use Rattle.flash_dev.specs.Counts.{raised_by};
 ghost use Rattle.flash_dev.specs.Calls.{no_calls, is_next_failing, after_call};
 ghost use Rattle.flash_dev.specs.Operations.{Program, Erase};
 ghost use Rattle.flash_dev.specs.Device.{IsRead, IsChange};
+ghost use Rattle.flash_dev.specs.Poking.{IsPoked};
 ghost use Rattle.flash_dev.specs.Memory.{memory_device};
 ghost use Rattle.flash_dev.specs.Told.{told_is_whole};
 
-use crate::{DevErr, Failed, FailingCalls, FlashDev};
+use crate::{BLOCK_SIZE, DevErr, Failed, FailingCalls, FlashDev, Tear};
 use std::alloc::{AllocError, Global};
 use std::marker::Model;
 
@@ -35,7 +36,7 @@ impl Model for MemFlash {
 impl MemFlash {
     ghost use Rattle.flash_dev.specs.Memory.{MemoryState};
 
-    /// A flash of these bytes. The calls of read, program and erase whose numbers, from 1, are in `fail` fail.
+    /// A flash of these bytes. The calls of read, program, erase and poke whose numbers, from 1, are in `fail` fail.
     pub fn new(alloc: Global, bytes: &[u8], fail: &[u32]) -> Result<MemFlash, AllocError>
         requires { length bytes.now < 2 ^ 32 }
         ensures { IfOk result (λ flash. flash ≡ record { bytes = bytes.now; calls = no_calls fail.now; wear = 0; fetched = 0 }) }
@@ -96,7 +97,10 @@ impl FlashDev for MemFlash {
         requires { at + length out.old ≤ length self.old.bytes }
         ensures read { IsRead at out.old out.new (memory_device self.old) (memory_device self.new) result }
         ensures exact { is_err result ≡ is_next_failing self.old.calls }
-        ensures state { self.new ≡ record self.old { calls = after_call (is_err result) self.old.calls; fetched = raised_by (length out.old) self.old.fetched } }
+        ensures state { self.new ≡ record self.old {
+          calls = after_call (is_err result) self.old.calls;
+          fetched = raised_by (length out.old) self.old.fetched;
+        } }
     {
         self.fetched = self.fetched.saturating_add(out.len() as u64);
         if self.calls.fails(false) {
@@ -146,6 +150,37 @@ impl FlashDev for MemFlash {
     ghost told_whole = { λ flash bytes same. told_is_whole flash.bytes bytes same };
 }
 
+// A poke fails exactly where it is listed, and changes no byte then.
+impl Tear for MemFlash {
+    fn poke(&mut self, at: u32, bytes: &[u8]) -> Result<(), Failed>
+        requires some { 1 ≤ length bytes.now }
+        requires short { length bytes.now ≤ 4096 }
+        requires inside { at + length bytes.now ≤ length self.old.bytes }
+        ensures poked { IsPoked at bytes.now (memory_device self.old) (memory_device self.new) result }
+        ensures exact { is_err result ≡ is_next_failing self.old.calls }
+        ensures state { self.new ≡ record self.old {
+          bytes = if is_err result then self.old.bytes else overwritten at bytes.now self.old.bytes;
+          calls = after_call (is_err result) self.old.calls;
+        } }
+    {
+        if self.calls.fails(false) {
+            return Err(Failed);
+        }
+        put_bytes(&mut self.bytes, at as usize, bytes);
+        Ok(())
+    }
+}
+
+// Makes the bytes from a place on these.
+fn put_bytes(held: &mut [u8], at: usize, bytes: &[u8])
+    requires { at + length bytes.now ≤ length held.old }
+    ensures made { held.new ≡ overwritten at bytes.now held.old }
+    ensures outside { Torn at (length bytes.now) held.old held.new }
+{
+    let end = at + bytes.len();
+    held[at..end].copy_from_slice(bytes);
+}
+
 // Makes each byte of a range hold just the bits that it and the new byte both have.
 fn program_bytes(held: &mut [u8], at: usize, bytes: &[u8])
     requires { at + length bytes.now ≤ length held.old }
@@ -172,6 +207,7 @@ fn erase_block(held: &mut [u8], block: usize)
     ensures made { held.new ≡ erased block held.old }
     ensures outside { Torn (block * block_size) block_size held.old held.new }
 {
-    let start = block * 4096;
-    held[start..start + 4096].fill(0xFF);
+    let size = BLOCK_SIZE as usize;
+    let start = block * size;
+    held[start..start + size].fill(0xFF);
 }
