@@ -3,11 +3,11 @@ use Rattle.std.proofs.Common.{◌≡◌, refl, sym, ap, ◌∙◌, subst, ℕ, �
 use Rattle.std.specs.Prelude.{option_map, IfSome}
 use Rattle.ec_types.specs.declared.image.ImageCopy.{ImageCopy}
 use Rattle.flash_dev.specs.Told.{Changes}
-use Rattle.flash_dev.specs.View.{DeviceView}
 use Rattle.flash_dev.specs.Costs.{Costs}
 use Rattle.flash_dev.specs.declared.hurt.Hurt.{Hurt}
 use Rattle.flash_dev.specs.declared.hurt.Hurt.TheVariants.{Whole, Failed}
 use Rattle.flash_dev.proofs.Accounting.{account-none}
+use Rattle.flash_dev.proofs.Costing.{costs-more, costs-none}
 use Rattle.ec_model.specs.Table.{Core}
 use Rattle.ec_model.specs.Operations.{Operation}
 use Rattle.ec_model.specs.Answer.{Outcome, refused, done, is_restart}
@@ -24,6 +24,7 @@ use Rattle.command_table.specs.Leaves.{FoundLeaves, HasReply}
 use Rattle.command_table.specs.Serving.{Finds, RestartsNot, IsJumpTo, AwaitsJump, other_copy}
 use Rattle.command_table.specs.After.{StaysOn, refused_status, refused_hurt}
 use Rattle.command_table.proofs.RowLemmas.{IsJustRead, read-through, whole-leaves}
+use Rattle.command_table.proofs.WearLemmas.{wears-none}
 
 -- what holds of each outcome of a jump but the one that was not asked for
 jump-answers : (P : Outcome → Type 0) (target : ImageCopy) (core : Core) → P (done core) → P (refused core 4) → P (refused core 2) → P (done (jumped target core)) → P (jump_row target core)
@@ -55,32 +56,6 @@ outside-row target core other granted outside =
 head-read : (target : ImageCopy) (core : Core) → same_copy target core.live.copy ≡ false → is_denied core target ≡ false → reads_head target core ≡ true
 head-read target core other granted =
     ap (λ (same : Bool). not same && not (is_denied core target)) other ∙ ap (λ (no : Bool). not no) granted
-
--- what was asked for at most may be more
-costs-more : (hurt : Hurt) (asked more : ℕ) (old new : DeviceView) → asked ≤ more → Costs hurt asked old new → Costs hurt more old new
-costs-more hurt asked more old new few costs =
-    record {
-      extent = costs.extent;
-      faults = costs.faults;
-      cuts = costs.cuts;
-      own_cuts = costs.own_cuts;
-      rose = costs.rose;
-      refusals = costs.refusals;
-      fetched = record { least = costs.fetched.least; most = omega (arith, costs.fetched.most, few) };
-    }
-
--- where nothing was done, nothing is spent
-costs-none : (asked : ℕ) (device : DeviceView) → Costs Whole asked device device
-costs-none asked device =
-    record {
-      extent = refl;
-      faults = omega arith;
-      cuts = omega arith;
-      own_cuts = omega arith;
-      rose = tt;
-      refusals = refl;
-      fetched = record { least = omega arith; most = omega arith };
-    }
 
 -- a jump that was refused with a status, where no read failed
 said-leaves : (said : ℕ) (target : ImageCopy) (limit : ℕ) (finds : Finds) (hurt : Hurt) (status : ℕ) (body : List ℕ) (old new : RunView) (P : List ℕ → Type 0) → IsJustRead old new → IfSome old.device.held P →
@@ -156,6 +131,7 @@ refused-row target old new why limit finds hurt status body other is hurt_is sta
         pin = ap (λ (run : RunView). run.pin) denied.1;
         short = rw body_is least;
         spent = subst (λ (run : RunView). Costs hurt 1024 old.device run.device) (sym denied.1) (rw whole (costs-none 1024 old.device));
+        wear = wears-none finds old new.device (ap (λ (run : RunView). run.device.wear) denied.1);
       }
   by Vector turned whole said =
       record {
@@ -166,6 +142,7 @@ refused-row target old new why limit finds hurt status body other is hurt_is sta
         pin = ap (λ (run : RunView). run.pin) turned.0.rest;
         short = rw body_is least;
         spent = rw whole (costs-more Whole 9 1024 old.device new.device (omega arith) turned.0.looked.spent);
+        wear = wears-none finds old new.device turned.0.looked.wear;
       }
   by Fault turned failed said =
       record {
@@ -175,6 +152,7 @@ refused-row target old new why limit finds hurt status body other is hurt_is sta
         pin = ap (λ (run : RunView). run.pin) turned.rest;
         short = rw body_is least;
         spent = rw failed (costs-more Failed 9 1024 old.device new.device (omega arith) turned.looked.spent);
+        wear = wears-none finds old new.device turned.looked.wear;
       }
 
 -- the row of a jump that is granted
@@ -196,6 +174,7 @@ granted-row target old new limit finds hurt status body other arrives hurt_is st
       pin = arrives.pin;
       short = rw body_is least;
       spent = rw hurt_is (costs-more Whole 9 1024 old.device new.device (omega arith) arrives.looked.spent);
+      wear = wears-none finds old new.device arrives.looked.wear;
     } where
       jump : (core : Core) → core.live ≡ old.live → IsJumpTo target limit (finds core) core
       jump core same = subst (λ (copy : ImageCopy). IsJumpTo copy limit (finds core) core) other (awaits.jump core same)

@@ -2,6 +2,8 @@
 use Rattle.std.specs.Prelude.{◌≡◌, ℕ, ◌+◌, ◌≤◌, List, [], length, IsFalse, Result, None}
 use Rattle.flash_dev.specs.Told.{Changes}
 use Rattle.flash_dev.specs.Costs.{Costs}
+use Rattle.flash_dev.specs.Counts.{RisesAtMost}
+use Rattle.flash_dev.specs.View.{DeviceView}
 use Rattle.flash_dev.specs.declared.hurt.Hurt.{Hurt}
 use Rattle.ec_types.specs.declared.image.ImageCopy.{ImageCopy}
 use Rattle.ec_types.specs.declared.image.ImageCopy.TheVariants.{Ro, Rw}
@@ -12,6 +14,7 @@ use Rattle.ec_model.specs.Jump.{same_copy, reads_head}
 use Rattle.ec_model.specs.RebootRow.{jump_row}
 use Rattle.ec_boot.specs.States.{RunView, told_core}
 use Rattle.command_table.specs.Leaves.{FoundLeaves}
+use Rattle.command_table.specs.Wear.{found_wear}
 use Rattle.command_table.specs.declared.reboot.Next.{Next}
 use Rattle.command_table.specs.declared.reboot.Next.TheVariants.{Stays, Jumps, Restarts}
 
@@ -28,6 +31,10 @@ other_copy Rw = Ro
 abbrev pub RestartsNot : ℕ → Finds → RunView → Type 0
 RestartsNot limit finds run = (core : Core) → core.live ≡ run.live → IsFalse (is_restart (row_of core limit (finds core)))
 
+-- the flash wears by no more than what was found in the request may, whatever it holds
+abbrev pub WearsFor : Finds → RunView → DeviceView → Type 0
+WearsFor finds run device = (core : Core) → core.live ≡ run.live → RisesAtMost (found_wear (finds core)) run.device.wear device.wear
+
 -- The request is answered: where the flash tells its bytes, the state, the status and the body are those of the command
 -- table's row, or of its failure.
 pub record IsDealtWith (limit : ℕ) (finds : Finds) (hurt : Hurt) (status : ℕ) (body : List ℕ) (old new : RunView) : Type 0 where
@@ -36,6 +43,7 @@ pub record IsDealtWith (limit : ℕ) (finds : Finds) (hurt : Hurt) (status : ℕ
       (told_core old) (told_core new)
   pub pin : new.pin ≡ old.pin
   pub spent : Costs hurt 1024 old.device new.device
+  pub wear : WearsFor finds old new.device
   pub short : 8 + length body ≤ limit
 
 -- what a core finds is a jump to an image that does not run

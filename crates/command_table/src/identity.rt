@@ -72,6 +72,7 @@ pub fn version<R: Running>(state: &mut R, reply: &mut Reply)
         (told_core (R.run state.old)) (told_core (R.run state.new)) }
     ensures pin { (R.run state.new).pin ≡ (R.run state.old).pin }
     ensures spent { Costs reply.new.hurt 64 (R.run state.old).device (R.run state.new).device }
+    ensures wear { (R.run state.new).device.wear ≡ (R.run state.old).device.wear }
     ensures short { length reply.new.body ≤ 100 }
 {
     match versions(state) {

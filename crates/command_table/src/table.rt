@@ -154,7 +154,8 @@ pub fn answer<F: FlashDev>(
     bus: BusKind,
     reply: &mut Reply,
 ) -> After<F>
-    ensures row { IsAnswered (packet_limit bus) (λ core. admitted core (request_view request.now)) reply.new.hurt reply.new.status reply.new.body (run_of state) result }
+    ensures row { IsAnswered (packet_limit bus) (λ core. admitted core (request_view request.now))
+        reply.new.hurt reply.new.status reply.new.body (run_of state) result }
     ensures guard { KeepsGuarded (run_of state) result }
 {
     // The guarded bytes are the lower half of the flash.

@@ -1,5 +1,8 @@
 //! Worked examples of the definitions: each function's contract is one, and each of its values was worked out by hand
 //! from the tables of the protocol.
+//!
+//! It stands on `ec_model`, whose definitions it tries, and no crate stands on it; it stands apart so that the
+//! definitions are checked fast. The contract that matters is each one: what a definition gives for these very bytes.
 #![tactic(auto)]
 
 pub mod bench;

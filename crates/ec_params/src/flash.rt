@@ -28,13 +28,14 @@ ghost use Rattle.ec_model.specs.Commands.{is_write_spelled};
 
 use crate::columns::{Columns, put_u32};
 use ec_packet::{LARGEST_BODY, Packet};
+use flash_dev::BLOCK_SIZE;
 
 /// The unit of a write, in bytes.
 pub const WRITE_UNIT: u32 = 4;
 /// The unit of an erase, in bytes.
-pub const ERASE_UNIT: u32 = 4096;
+pub const ERASE_UNIT: u32 = BLOCK_SIZE;
 /// The unit of protection, in bytes.
-pub const PROTECT_UNIT: u32 = 4096;
+pub const PROTECT_UNIT: u32 = BLOCK_SIZE;
 /// The most bytes of a write that is done in one piece.
 pub const IDEAL_WRITE: u32 = 64;
 /// The most bytes that a FLASH_WRITE of version 0 may have. EC_FLASH_WRITE_VER0_SIZE

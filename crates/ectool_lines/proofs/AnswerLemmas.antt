@@ -21,7 +21,7 @@ use Rattle.exchange_laws.specs.AnyBus.{exchange_calls, IsExchangeOf}
 use Rattle.exchange_laws.specs.Served.{IsPlain, IsAnswer}
 use Rattle.exchange_laws.proofs.CalmRun.{calm_lead}
 use Rattle.exchange_laws.proofs.AnyBus.{exchange-of, serves}
-use Rattle.exchange_laws.proofs.LpcSend.{bus-facts, settled-valid}
+use Rattle.exchange_laws.proofs.Settled.{bus-facts, settled-valid}
 use Rattle.exchange_laws.proofs.Plain.{plain-answered}
 use Rattle.exchange_laws.proofs.Response.{eq-true}
 use Rattle.host_transport.specs.Once.{Ending, Said, ended, heard_as, Bad}

@@ -1,7 +1,20 @@
 // The commands that a line sends.
 ghost use Rattle.std.specs.Prelude.{◌≡◌, ◌≤◌, ◌<◌, ◌+◌, ◌-◌, ◌*◌, [], length, take, drop, min};
 ghost use Rattle.ectool_lines.specs.Tools.{IsInRange};
-ghost use Rattle.ectool_lines.specs.Requests.{parts_of, count_of, command_of, hello_command, question, region_number, image_offset, hash_command, hash_start_command, test_command, read_command, write_command};
+ghost use Rattle.ectool_lines.specs.Requests.{
+  parts_of,
+  count_of,
+  command_of,
+  hello_command,
+  question,
+  region_number,
+  image_offset,
+  hash_command,
+  hash_start_command,
+  test_command,
+  read_command,
+  write_command,
+};
 ghost use Rattle.ec_model.specs.Bodies.{cmd_versions_ask1, region_info_ask, flash_protect_ask, reboot_ask};
 ghost use Rattle.ec_model.specs.InfoRows.{zero_padded};
 ghost use Rattle.ectool_lines.specs.Sending.{asked_of};
@@ -24,18 +37,6 @@ use std::cmp::min;
 
 /// The number that the host sends with HELLO.
 const HELLO_NUMBER: u32 = 0xA0B0_C0D0;
-
-// What VBOOT_HASH is asked for.
-const HASH_GET: u8 = 0;
-
-const HASH_ABORT: u8 = 1;
-
-const HASH_START: u8 = 2;
-
-// The offsets by which VBOOT_HASH names an image.
-const HASH_OFFSET_RO: u32 = 0xFFFF_FFFE;
-
-const HASH_OFFSET_RW: u32 = 0xFFFF_FFFD;
 
 /// A command as it is sent, but for its body.
 #[derive(Clone, Copy)]
@@ -81,8 +82,8 @@ impl<'a> Tool<'a> {
             Tool::FlashInfo => question(FLASH_INFO, 1, 24),
             Tool::RegionInfo { region } => region_info(*region, body),
             Tool::FlashProtect { mask, flags } => flash_protect(*mask, *flags, body),
-            Tool::Hash => hash(HASH_GET, 76, body),
-            Tool::HashAbort => hash(HASH_ABORT, 0, body),
+            Tool::Hash => hash(VbootHashAsk::GET, 76, body),
+            Tool::HashAbort => hash(VbootHashAsk::ABORT, 0, body),
             Tool::HashStart { copy, nonce } => hash_start(image_offset(*copy), 0, nonce, body),
             Tool::HashRange { at, size } => hash_start(*at, *size, &HexBytes::none(), body),
             Tool::Sysinfo => question(SYSINFO, 0, 12),
@@ -207,8 +208,8 @@ fn image_offset(copy: ImageCopy) -> u32
     ensures { result ≡ image_offset copy }
 {
     match copy {
-        ImageCopy::Ro => HASH_OFFSET_RO,
-        ImageCopy::Rw => HASH_OFFSET_RW,
+        ImageCopy::Ro => VbootHashAsk::OFFSET_RO,
+        ImageCopy::Rw => VbootHashAsk::OFFSET_RW,
     }
 }
 
@@ -219,7 +220,7 @@ fn hash(cmd: u8, want: usize, body: &mut Packet) -> Command
 {
     let ask = VbootHashAsk {
         cmd,
-        hash_type: 0,
+        hash_type: VbootHashAsk::TYPE_SHA256,
         nonce_size: 0,
         reserved: 0,
         offset: 0,
@@ -241,8 +242,8 @@ fn hash_start(offset: u32, size: u32, nonce: &HexBytes<'_>, body: &mut Packet) -
     ensures { asked_of result body.new ≡ hash_start_command offset size nonce.now }
 {
     let ask = VbootHashAsk {
-        cmd: HASH_START,
-        hash_type: 0,
+        cmd: VbootHashAsk::START,
+        hash_type: VbootHashAsk::TYPE_SHA256,
         nonce_size: nonce.len() as u8,
         reserved: 0,
         offset,

@@ -5,7 +5,27 @@ ghost use Rattle.script_words.specs.Faults.{kind_of, by_kind};
 ghost use Rattle.script_words.specs.Lines.{checked};
 ghost use Rattle.script_words.specs.Words.{words_of};
 ghost use Rattle.script_words.specs.Forms.{alone, with_one, with_two, with_three, number_to, hex_to};
-ghost use Rattle.ectool_lines.specs.Tools.{region_named, region_to, protect_named, protect_bits, protect_form, protect_by, image_named, image_to, fixed_to, hash_with_two, hash_behind, hash_form, hash_by, reboot_named, reboot_to, is_reboot, tool_of, tool_by, IsInRange};
+ghost use Rattle.ectool_lines.specs.Tools.{
+  region_named,
+  region_to,
+  protect_named,
+  protect_bits,
+  protect_form,
+  protect_by,
+  image_named,
+  image_to,
+  fixed_to,
+  hash_with_two,
+  hash_behind,
+  hash_form,
+  hash_by,
+  reboot_named,
+  reboot_to,
+  is_reboot,
+  tool_of,
+  tool_by,
+  IsInRange,
+};
 
 use crate::Tool;
 use ec_types::ImageCopy;

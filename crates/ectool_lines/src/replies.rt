@@ -4,7 +4,19 @@ ghost use Rattle.std.specs.Fmt.{decimal};
 ghost use Rattle.ec_types.specs.LittleEndian.{u32_at};
 ghost use Rattle.ectool_lines.specs.Requests.{command_of};
 ghost use Rattle.ectool_lines.specs.Sending.{most_text};
-ghost use Rattle.ectool_lines.specs.Texts.{reply_text, hex_text, image_text, version_text, chip_text, proto_info_text, flash_info_text, protection_text, hash_text, hash_reply, sysinfo_text};
+ghost use Rattle.ectool_lines.specs.Texts.{
+  reply_text,
+  hex_text,
+  image_text,
+  version_text,
+  chip_text,
+  proto_info_text,
+  flash_info_text,
+  protection_text,
+  hash_text,
+  hash_reply,
+  sysinfo_text,
+};
 ghost use Rattle.ectool_lines.specs.declared.tool.Tool.TheVariants as tool;
 
 use crate::Tool;
@@ -13,11 +25,6 @@ use ec_params::{
     ChipSay, CmdVersionsSay, FlashInfoSay1, FlashProtectSay, ProtoInfoSay, RegionInfoSay,
     SysinfoSay, VbootHashSay, VersionSay,
 };
-
-// The statuses of a hash that are told apart.
-const HASH_DONE: u8 = 1;
-
-const HASH_BUSY: u8 = 2;
 
 /// Appends what the reply to a command of the line gives to its text.
 pub(crate) fn add_reply(out: &mut LineText, tool: &Tool<'_>, reply: &[u8])
@@ -207,8 +214,8 @@ fn hash(out: &mut LineText, say: &VbootHashSay)
     ensures long { length out.new ≤ length out.old + 200 }
 {
     match say.status {
-        HASH_DONE => done_hash(out, say),
-        HASH_BUSY => out.append(b"hash busy"),
+        VbootHashSay::STATUS_DONE => done_hash(out, say),
+        VbootHashSay::STATUS_BUSY => out.append(b"hash busy"),
         _ => out.append(b"hash none"),
     }
 }

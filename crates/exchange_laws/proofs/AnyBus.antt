@@ -24,7 +24,8 @@ use Rattle.exchange_laws.specs.Calm.{CallsLead}
 use Rattle.exchange_laws.specs.Served.{IsPlain, LeavesCore, ServesPacket}
 use Rattle.exchange_laws.proofs.CalmRun.{calm_lead}
 use Rattle.exchange_laws.proofs.LpcExchange.{on-before, lpc-exchange}
-use Rattle.exchange_laws.proofs.LpcSend.{bus-facts, lpc-calm}
+use Rattle.exchange_laws.proofs.Settled.{bus-facts}
+use Rattle.exchange_laws.proofs.LpcSend.{lpc-calm}
 use Rattle.exchange_laws.proofs.I2cSend.{i2c-settled, i2c-exchange, i2c-calm}
 use Rattle.exchange_laws.proofs.SpiSend.{spi-settled, spi-exchanges, spi-calm}
 

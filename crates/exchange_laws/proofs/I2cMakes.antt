@@ -15,7 +15,7 @@ use Rattle.ec_model.specs.WholeStep.{after_outcome}
 use Rattle.exchange_laws.specs.Calm.{CallsLead}
 use Rattle.exchange_laws.specs.Transaction.{MakesTransaction, i2c_transaction}
 use Rattle.exchange_laws.proofs.Response.{length-response, heard-response}
-use Rattle.exchange_laws.proofs.LpcSend.{as-table, bus-facts}
+use Rattle.exchange_laws.proofs.Settled.{as-table, bus-facts}
 use Rattle.exchange_laws.proofs.QuietEntries.{quiet-calm, quiet-are-calls, quiet-calls, quiet-run}
 
 -- a place for one more byte

@@ -21,7 +21,7 @@ use Rattle.exchange_laws.specs.Transaction.{i2c_transaction}
 use Rattle.exchange_laws.proofs.FitRows.{Fits, handled-fits}
 use Rattle.exchange_laws.proofs.Plain.{plain-answered}
 use Rattle.exchange_laws.proofs.Response.{length-response, heard-response}
-use Rattle.exchange_laws.proofs.LpcSend.{as-table, bus-facts}
+use Rattle.exchange_laws.proofs.Settled.{as-table, bus-facts}
 use Rattle.exchange_laws.proofs.I2cLead.{start-lead, writes-lead, served-lead, reads-lead, stop-lead, all-taken}
 
 -- the calls are a whole transaction of the packet for this response, which was heard, and the core is left with an idle bus
@@ -79,7 +79,7 @@ read-lead after packet status body outcome size bytes stopped heard new fits who
     }
 
 -- where some byte was not taken, as many answers as bytes were seen
-taken-size : (taken got : ℕ) (packet : List ℕ) → taken ≤ length packet → length (replicate taken 0 ++ got ∷ []) ≡ length (take (taken + 1) (0xDA ∷ packet))
+pub taken-size : (taken got : ℕ) (packet : List ℕ) → taken ≤ length packet → length (replicate taken 0 ++ got ∷ []) ≡ length (take (taken + 1) (0xDA ∷ packet))
 taken-size taken got packet some = omega (arith, some, length-append (replicate taken 0) (got ∷ []), length-replicate {A = ℕ} taken 0, length-take (taken + 1) (0xDA ∷ packet))
 
 -- an undisturbed send from a controller that is on, with what its request is answered

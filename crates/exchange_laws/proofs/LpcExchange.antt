@@ -28,7 +28,8 @@ use Rattle.exchange_laws.specs.Exchange.{first_statuses, lpc_exchange_calls, Exc
 use Rattle.exchange_laws.proofs.CalmRun.{calm_lead}
 use Rattle.exchange_laws.proofs.LpcLead.{lpc}
 use Rattle.exchange_laws.proofs.LpcFirst.{Idled}
-use Rattle.exchange_laws.proofs.LpcSend.{served_calls, answers-by, hear-lead, core-valid, window-whole, settled-valid, idled-at, served-made, lpc-calm}
+use Rattle.exchange_laws.proofs.Settled.{settled-valid}
+use Rattle.exchange_laws.proofs.LpcSend.{served_calls, answers-by, hear-lead, core-valid, window-whole, idled-at, served-made, lpc-calm}
 
 -- the calls, once each byte that they got is known
 exchange-is : (statuses request response gots : List ℕ) (got : ℕ) (first second : List ℕ) (outcome : ℕ) (bytes : List ℕ) →

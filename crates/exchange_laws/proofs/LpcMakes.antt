@@ -76,6 +76,6 @@ exchange-goes core after window status outcome packet result body size idle plai
     let read = reads-go after (record { window = left; status = 0; outcome = low_status reply }) 0x800 0 reply [] new refl (omega (arith, length-response result body, fits)) left_size shown refl in
     let reads = subst (λ (calls : List HostCall). CallsLead new calls new) (append-nil (port_reads 0x800 reply)) read in
     let behind = Did status_in 0x01 ∷ Did (PortIn 0x200) (low_status reply) ∷ port_reads 0x800 reply in
-    let ticked = tick-go core after asked_window 0xFF result body behind new (handled-window core packet window plain ∙ same) (refl, (refl, reads)) in
+    let ticked = tick-go core after asked_window 0xFF result body behind new (handled-window core packet window plain.header plain.whole ∙ same) (refl, (refl, reads)) in
     let commanded = command-go core asked_window status outcome (Waited ∷ behind) new idle ticked in
     (refl, writes-go core window status outcome 0x800 0 packet (Did (PortOut 0x204 0xDA) 0 ∷ Waited ∷ behind) new refl (omega (arith, short)) size idle commanded)

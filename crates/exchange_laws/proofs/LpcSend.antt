@@ -1,29 +1,22 @@
 -- An undisturbed send on LPC: the request is handled, and its response is heard.
-use Rattle.std.proofs.Common.{◌≡◌, refl, sym, ap, ◌∙◌, subst, ℕ, ◌+◌, ◌≤◌, Bool, true, false, ◌&&◌, ◌==◌, nat_le, if◌then◌else◌, List, [], ◌∷◌, ◌++◌, length, take, drop, replicate, length-append, length-drop, append_assoc, append-nil, arith, Some}
+use Rattle.std.proofs.Common.{◌≡◌, refl, sym, ap, ◌∙◌, subst, ℕ, ◌+◌, ◌≤◌, Bool, true, false, ◌&&◌, ◌==◌, nat_le, List, [], ◌∷◌, ◌++◌, length, take, drop, replicate, length-append, length-drop, append_assoc, append-nil, arith, Some}
 use Rattle.std.proofs.lemmas.Bool.Decides.{leb_tells, eqb_tells}
 use Rattle.flash_dev.specs.Flash.{overwritten}
 use Rattle.ec_types.specs.declared.bus.BusKind.TheVariants.{Lpc}
 use Rattle.ec_model.specs.declared.event.Access.TheVariants.{PortOut, PortIn}
-use Rattle.ec_model.specs.declared.event.Event.{Event}
-use Rattle.ec_model.specs.declared.event.Event.TheVariants.{Tick}
-use Rattle.ec_model.specs.declared.event.Entry.TheVariants.{Step}
-use Rattle.flash_dev.specs.declared.hurt.Hurt.TheVariants.{Whole}
-use Rattle.ec_model.specs.Packet.{response_packet, response_length}
-use Rattle.ec_model.specs.Bus.{kind_of, is_busy, low_status}
+use Rattle.ec_model.specs.Packet.{response_packet, response_length, request_length}
+use Rattle.ec_model.specs.Bus.{is_busy, low_status}
 use Rattle.ec_model.specs.HostCalls.{HostCall, Did}
 use Rattle.ec_model.specs.Heard.{Heard, Reply, poll_end, waited_reads, spaced_reads, port_reads, port_writes, is_all_read, reads_on, heard_if, heard_with}
 use Rattle.ec_model.specs.SendLpc.{status_in, LpcServed, LpcSend, LpcWasBlocked, LpcWasUnserved, LpcWasServed}
 use Rattle.ec_model.specs.Send.{LpcQuiet}
-use Rattle.ec_model.specs.Table.{Table, Awake, Power, Off, On, Core, Valid, IsBusValid, core_of, table_of}
+use Rattle.ec_model.specs.Table.{Table, Awake, On, Core, Valid, core_of, table_of}
 use Rattle.ec_model.specs.Answer.{Outcome, Answered, Restarts}
 use Rattle.ec_model.specs.Handle.{handled, asked, row_of, admitted_from}
-use Rattle.ec_model.specs.WholeStep.{stepped, stepped_by}
-use Rattle.ec_model.specs.Step.{EventLeavesBy}
-use Rattle.ec_model.specs.Syncable.{waits_on_lpc, settled_by, settled}
+use Rattle.ec_model.specs.Syncable.{settled}
 use Rattle.ec_model.proofs.ValidRows.{IsCoreValid}
 use Rattle.ec_model.proofs.ShortRows.{IsShort}
 use Rattle.ec_model.proofs.ValidStep.{row_of-short}
-use Rattle.ec_model.proofs.ValidEvents.{step-valid}
 use Rattle.exchange_laws.specs.Calm.{CallsLead}
 use Rattle.exchange_laws.specs.Served.{IsPlain, IsAnswer, ServesPacket, Settles}
 use Rattle.exchange_laws.proofs.Plain.{plain-answered}
@@ -31,20 +24,7 @@ use Rattle.exchange_laws.proofs.Framed.{framing-append}
 use Rattle.exchange_laws.proofs.Response.{length-response, read-whole, heard-response}
 use Rattle.exchange_laws.proofs.LpcLead.{lpc, reads-lead, writes-lead, command-lead, tick-lead, ready-lead}
 use Rattle.exchange_laws.proofs.LpcFirst.{Idled, idled}
-
--- a table that is on is its core with its bus
-pub as-table : (table : Table) (awake : Awake) → table.power ≡ On awake → kind_of awake.bus ≡ table.kind → table ≡ table_of (core_of table awake) awake.bus
-as-table table awake on kind = rw (kind, ← on) refl
-
--- a settled table is valid
-pub whole-leaves : (table : Table) (event : Event) (power : Power) → EventLeavesBy Whole table event power (stepped_by table event power)
-whole-leaves table event Off = refl
-whole-leaves table event (On awake) = refl
-
--- a table is valid behind a tick, and without one
-tick-valid : (table : Table) (waits : Bool) → Valid table → Valid (if waits then (stepped table Tick).table else table)
-tick-valid table true valid = step-valid table (Step Tick (stepped table Tick).answer 0 0 Whole) (stepped table Tick).table valid (whole-leaves table Tick table.power)
-tick-valid table false valid = valid
+use Rattle.exchange_laws.proofs.Settled.{as-table, bus-facts, settled-valid}
 
 -- the poll behind a request saw its response at once
 record IsServed (table : Table) (statuses : List ℕ) (ready : Bool) (calls : List HostCall) (new : Table) : Type 0 where
@@ -136,8 +116,8 @@ pub overwritten-size : (bytes window : List ℕ) → length window ≡ 256 → l
 overwritten-size bytes window size short = omega (arith, length-append bytes (drop (0 + length bytes) window), length-drop (0 + length bytes) window, size, short)
 
 -- the packet at the front of the window is the request
-pub handled-window : (core : Core) (packet window : List ℕ) → IsPlain packet → handled core 256 (overwritten 0 packet window) ≡ handled core 256 packet
-handled-window core packet window plain = ap (λ (f : _). row_of core 256 (admitted_from core f)) (framing-append packet (drop (0 + length packet) window) plain.header plain.whole)
+pub handled-window : (core : Core) (packet window : List ℕ) → 8 ≤ length packet → length packet ≡ 8 + request_length packet → handled core 256 (overwritten 0 packet window) ≡ handled core 256 packet
+handled-window core packet window header whole = ap (λ (f : _). row_of core 256 (admitted_from core f)) (framing-append packet (drop (0 + length packet) window) header whole)
 
 -- a send from a bus that is not busy, up to where its response stands in the window
 pub answers-by : (core after : Core) (window : List ℕ) (status outcome result : ℕ) (body packet gots : List ℕ) (got : ℕ) (statuses : List ℕ) (ready : Bool) (tail : List HostCall) (new : Table) →
@@ -148,7 +128,7 @@ answers-by core after window status outcome result body packet gots got statuses
     let asked_size = overwritten-size packet window size short in
     let written = writes-lead core window status outcome 0x800 0 packet gots (Did (PortOut 0x204 0xDA) got ∷ (waited_reads status_in statuses ++ tail)) new refl (omega (arith, short)) size idle each lead in
     let commanded = command-lead core asked_window status outcome got (waited_reads status_in statuses ++ tail) new idle written.1 in
-    let served = serve-lead core after asked_window 0xFF result body statuses ready tail new (handled-window core packet window plain ∙ same) polled commanded.1 in
+    let served = serve-lead core after asked_window 0xFF result body statuses ready tail new (handled-window core packet window plain.header plain.whole ∙ same) polled commanded.1 in
     record {
       rest = drop (0 + length (response_packet result body)) asked_window;
       window = overwritten 0 (response_packet result body) asked_window;
@@ -206,26 +186,6 @@ served-whole table seen packet gots got statuses first outcome bytes heard new v
       kind = ap (λ (t : Table). t.kind) hears.leaves;
     } in
     subst (λ (t : Table). ServesPacket packet t heard new) (sym at.same) serves
-
--- what a valid table that is on says of its bus
-pub record BusFacts (table : Table) (awake : Awake) : Type 0 where
-  pub kind : kind_of awake.bus ≡ table.kind
-  pub valid : IsBusValid awake.bus
-  pub core : IsCoreValid (core_of table awake)
-
--- a valid table that is on has a valid bus and a valid core
-pub bus-facts : (table : Table) (awake : Awake) → Valid table → table.power ≡ On awake → BusFacts table awake
-bus-facts table awake valid on =
-    let awake_valid = rw on at valid.power in
-    record { kind = awake_valid.bus_kind; valid = awake_valid.bus; core = record { size = valid.size; all_with_ro = awake_valid.all_with_ro; jumped = awake_valid.jumped; erase = awake_valid.erase; hash = awake_valid.hash; saved = awake_valid.saved } }
-
--- a settled table is valid
-pub settled-valid : (table : Table) → Valid table → Valid (settled table)
-settled-valid table valid = settled-valid-by table table.power refl valid
-  where
-    settled-valid-by : (table : Table) (power : Power) → table.power ≡ power → Valid table → Valid (settled_by table power)
-    settled-valid-by table Off same valid = valid
-    settled-valid-by table (On awake) same valid = tick-valid table (waits_on_lpc awake.bus) valid
 
 -- the first poll of a send from a valid table
 pub idled-at : (table : Table) (awake : Awake) (statuses : List ℕ) (ready : Bool) (calls tail : List HostCall) (new : Table) → Valid table → table.power ≡ On awake → table.kind ≡ Lpc → poll_end is_busy 5 statuses ≡ Some ready →

@@ -21,7 +21,8 @@ use Rattle.exchange_laws.specs.Exchange.{lpc_exchange_calls}
 use Rattle.exchange_laws.specs.Transaction.{MakesTransaction, lpc_transaction}
 use Rattle.exchange_laws.proofs.Response.{length-response, response-named, heard-response, eq-true, fits}
 use Rattle.exchange_laws.proofs.LpcLead.{lpc}
-use Rattle.exchange_laws.proofs.LpcSend.{as-table, core-valid, window-whole, regroup}
+use Rattle.exchange_laws.proofs.Settled.{as-table}
+use Rattle.exchange_laws.proofs.LpcSend.{core-valid, window-whole, regroup}
 use Rattle.exchange_laws.proofs.LpcMakes.{left_window, exchange-goes}
 use Rattle.exchange_laws.proofs.QuietEntries.{quiet-calm, quiet-are-calls, quiet-calls, quiet-run}
 use Rattle.exchange_laws.proofs.Transacted.{not-true}

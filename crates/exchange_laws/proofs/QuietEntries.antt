@@ -16,7 +16,7 @@ use Rattle.ec_model.specs.Run.{IsRun}
 use Rattle.ec_wire.specs.Quiet.{quiet_entry}
 use Rattle.ec_wire.proofs.Calm.{with_byte-access_byte}
 use Rattle.exchange_laws.specs.Calm.{CallsLead}
-use Rattle.exchange_laws.proofs.LpcSend.{whole-leaves}
+use Rattle.exchange_laws.proofs.Settled.{whole-leaves}
 
 -- a number is itself
 self : (n : ℕ) → (n == n) ≡ true

@@ -21,7 +21,8 @@ use Rattle.exchange_laws.specs.Calm.{CallsLead}
 use Rattle.exchange_laws.specs.Resting.{is_waiting}
 use Rattle.exchange_laws.specs.Transaction.{is_resting}
 use Rattle.exchange_laws.proofs.CalmRun.{calm_lead}
-use Rattle.exchange_laws.proofs.LpcSend.{bus-facts, idled-at, idle-is-not-six}
+use Rattle.exchange_laws.proofs.Settled.{bus-facts}
+use Rattle.exchange_laws.proofs.LpcSend.{idled-at, idle-is-not-six}
 use Rattle.exchange_laws.proofs.OffLead.{off-same}
 use Rattle.exchange_laws.proofs.Transacted.{not-true}
 

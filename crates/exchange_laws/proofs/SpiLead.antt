@@ -2,7 +2,7 @@
 use Rattle.std.proofs.Common.{◌≡◌, refl, sym, ap, ◌∙◌, subst, ℕ, ◌+◌, ◌-◌, ◌≤◌, Bool, true, false, nat_lt, List, [], ◌∷◌, ◌++◌, length, take, replicate, append_assoc, length-append, arith, Some}
 use Rattle.ec_types.specs.LittleEndian.{u16_at}
 use Rattle.ec_model.specs.declared.event.Access.TheVariants.{SpiByte}
-use Rattle.ec_model.specs.Packet.{response_packet}
+use Rattle.ec_model.specs.Packet.{response_packet, request_length}
 use Rattle.ec_model.specs.Bus.{SpiState, OnSpi, Receiving, Waiting, Replied}
 use Rattle.ec_model.specs.HostCalls.{HostCall, Did, Waited}
 use Rattle.ec_model.specs.Heard.{poll_end, waited_reads, spaced_reads, reads_in_row, spi_writes}
@@ -12,7 +12,6 @@ use Rattle.ec_model.specs.Answer.{Outcome, Answered}
 use Rattle.ec_model.specs.Handle.{handled}
 use Rattle.ec_model.specs.WholeStep.{after_outcome}
 use Rattle.exchange_laws.specs.Calm.{CallsLead}
-use Rattle.exchange_laws.specs.Served.{IsPlain}
 use Rattle.exchange_laws.proofs.SpiMakes.{received-whole, received-by, behind-first}
 
 -- the bytes of a request behind its first one: each got 0xF9, and then the request waits
@@ -37,14 +36,14 @@ writes-lead core front (byte ∷ next ∷ bytes) (got ∷ gots) calls new begun 
     )
 
 -- a whole request is written: what each byte of it got, and then it waits
-pub request-lead : (core : Core) (packet gots : List ℕ) (calls : List HostCall) (new : Table) → IsPlain packet → length packet ≤ 544 → length gots ≡ length packet → CallsLead (table_of core (OnSpi (Receiving []))) (spi_writes packet gots ++ calls) new →
+pub request-lead : (core : Core) (packet gots : List ℕ) (calls : List HostCall) (new : Table) → 8 ≤ length packet → length packet ≡ 8 + request_length packet → length packet ≤ 544 → length gots ≡ length packet → CallsLead (table_of core (OnSpi (Receiving []))) (spi_writes packet gots ++ calls) new →
     (gots ≡ 0xF8 ∷ replicate (length packet - 1) 0xF9) × CallsLead (table_of core (OnSpi (Waiting packet))) calls new
-request-lead core [] gots calls new plain short each lead = absurd (omega (arith, plain.header))
-request-lead core (byte ∷ bytes) [] calls new plain short each lead = absurd (omega (arith, each))
-request-lead core (byte ∷ bytes) (got ∷ gots) calls new plain short each lead =
-    let some : 1 ≤ length bytes = omega (arith, plain.header) in
-    let fits : u16_at 6 (byte ∷ bytes) ≤ 536 = omega (arith, plain.whole, short) in
-    let rest = writes-lead core (byte ∷ []) bytes gots calls new (omega arith) some plain.whole fits (omega (arith, each)) lead.1 in
+request-lead core [] gots calls new header whole short each lead = absurd (omega (arith, header))
+request-lead core (byte ∷ bytes) [] calls new header whole short each lead = absurd (omega (arith, each))
+request-lead core (byte ∷ bytes) (got ∷ gots) calls new header whole short each lead =
+    let some : 1 ≤ length bytes = omega (arith, header) in
+    let fits : u16_at 6 (byte ∷ bytes) ≤ 536 = omega (arith, whole, short) in
+    let rest = writes-lead core (byte ∷ []) bytes gots calls new (omega arith) some whole fits (omega (arith, each)) lead.1 in
     let size : length bytes ≡ length (byte ∷ bytes) - 1 = omega arith in
     (ap (λ (first : ℕ). first ∷ gots) lead.0 ∙ ap (λ (others : List ℕ). 0xF8 ∷ others) (rest.0 ∙ ap (λ (n : ℕ). replicate n 0xF9) size), rest.1)
 

@@ -19,7 +19,7 @@ use Rattle.exchange_laws.specs.Served.{IsPlain}
 use Rattle.exchange_laws.specs.Transaction.{MakesTransaction, spi_transaction}
 use Rattle.exchange_laws.proofs.Framed.{enough}
 use Rattle.exchange_laws.proofs.Response.{length-response, response-named, response-is, eq-true}
-use Rattle.exchange_laws.proofs.LpcSend.{as-table, bus-facts}
+use Rattle.exchange_laws.proofs.Settled.{as-table, bus-facts}
 use Rattle.exchange_laws.proofs.QuietEntries.{quiet-calm, quiet-are-calls, quiet-calls, quiet-run}
 
 -- a whole request waits

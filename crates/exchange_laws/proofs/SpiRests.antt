@@ -49,7 +49,7 @@ deselects SpiSelect meant seen stopped same = absurd (cc)
 deselects (SpiByte byte) meant seen stopped same = absurd (cc)
 
 -- the last of some calls deselects
-record EndsDeselected (calls : List HostCall) : Type 0 where
+pub record EndsDeselected (calls : List HostCall) : Type 0 where
   pub before : List HostCall
   pub stopped : ℕ
   pub made : calls ≡ before ++ Did SpiDeselect stopped ∷ []
@@ -84,7 +84,7 @@ step-rests old event answer hurt new valid kind is leaves =
     deselect-by hurt old old.power (record { table = new; answer = answer }) refl valid.power kind (subst (λ (e : Event). EventLeavesBy hurt old e old.power (record { table = new; answer = answer })) is leaves)
 
 -- a run whose last call deselects
-deselected-rests : (old : Table) (entries : List Entry) (new : Table) → Valid old → old.kind ≡ Spi → EndsDeselected (calls_of entries) → IsRun old entries new → Rests new
+pub deselected-rests : (old : Table) (entries : List Entry) (new : Table) → Valid old → old.kind ≡ Spi → EndsDeselected (calls_of entries) → IsRun old entries new → Rests new
 deselected-rests old [] new valid kind ends run = absurd (not-none ends.before ends.stopped ends.made)
 deselected-rests old (Step event answer meant seen hurt ∷ entries) new valid kind ends run =
     let next = step-valid old (Step event answer meant seen hurt) run.0 valid run.1 in

@@ -11,7 +11,7 @@ use Rattle.ec_model.specs.SendSpi.{spi_reads_on, SpiServed, SpiSend, SpiWasUnser
 use Rattle.ec_model.specs.Send.{OneAccess}
 use Rattle.ec_model.specs.Table.{Table, Awake, On, Core, Valid, core_of, table_of}
 use Rattle.ec_model.specs.Answer.{Outcome, Answered, Restarts}
-use Rattle.ec_model.specs.Handle.{handled, asked}
+use Rattle.ec_model.specs.Handle.{handled}
 use Rattle.ec_model.specs.Syncable.{waits_on_lpc, settled}
 use Rattle.ec_model.proofs.ValidRows.{IsCoreValid}
 use Rattle.exchange_laws.specs.Calm.{CallsLead}
@@ -19,8 +19,8 @@ use Rattle.exchange_laws.specs.Served.{IsPlain, IsAnswer, ServesPacket, Settles}
 use Rattle.exchange_laws.specs.Transaction.{spi_transaction}
 use Rattle.exchange_laws.proofs.Plain.{plain-answered}
 use Rattle.exchange_laws.proofs.Response.{length-response, response-named, named-take, named-front, many_of, whole_of}
-use Rattle.exchange_laws.proofs.LpcSend.{as-table, bus-facts}
-use Rattle.exchange_laws.proofs.SpiFits.{FitsSpi, row_of-fits}
+use Rattle.exchange_laws.proofs.Settled.{as-table, bus-facts}
+use Rattle.exchange_laws.proofs.FitRows.{Fits, handled-fits}
 use Rattle.exchange_laws.proofs.SpiLead.{request-lead, poll-lead, reads-lead}
 use Rattle.exchange_laws.proofs.SpiMakes.{regroup, within, response-heard}
 
@@ -63,7 +63,7 @@ served-exchange core after state packet result body calls heard new plain short 
     let stop = Did SpiDeselect served.stopped ∷ [] in
     let placed : calls ≡ first ++ poll ++ reads ++ stop = served.made ∙ ap (λ (xs : List HostCall). xs ++ poll ++ reads ++ stop) asks.made in
     let led : CallsLead (table_of core (OnSpi state)) (first ++ (poll ++ (reads ++ stop))) new = subst (λ (xs : List HostCall). CallsLead (table_of core (OnSpi state)) xs new) (placed ∙ sym (regroup first poll reads stop)) lead in
-    let written = request-lead core packet asks.gots (poll ++ (reads ++ stop)) new plain short asks.each led.1 in
+    let written = request-lead core packet asks.gots (poll ++ (reads ++ stop)) new plain.header plain.whole short asks.each led.1 in
     let polled = poll-lead core after packet result body served.answers true (reads ++ stop) new same served.polled written.1 in
     let read = reads-lead after reply served.bytes stop new polled.1 in
     let whole = read-whole result body read.rest served.bytes fits read.front served.whole in
@@ -84,7 +84,7 @@ exchange-by core after state packet result body calls heard new plain short fits
     let stop = Did SpiDeselect unserved.stopped ∷ [] in
     let placed : calls ≡ first ++ (poll ++ stop) = unserved.made ∙ ap (λ (xs : List HostCall). xs ++ poll ++ stop) asks.made ∙ append_assoc first poll stop in
     let led : CallsLead (table_of core (OnSpi state)) (first ++ (poll ++ stop)) new = subst (λ (xs : List HostCall). CallsLead (table_of core (OnSpi state)) xs new) placed lead in
-    let written = request-lead core packet asks.gots (poll ++ stop) new plain short asks.each led.1 in
+    let written = request-lead core packet asks.gots (poll ++ stop) new plain.header plain.whole short asks.each led.1 in
     let polled = poll-lead core after packet result body unserved.answers unserved.ready stop new same unserved.polled written.1 in
     absurd (unserved.no_reply (ap (λ (xs : List ℕ). last_byte xs) polled.0))
 
@@ -97,13 +97,13 @@ record IsAnswered (core : Core) (packet : List ℕ) : Type 0 where
   pub fits : length body ≤ 536
 
 -- by its outcome
-answered-by : (core : Core) (packet : List ℕ) (outcome : Outcome) → handled core 544 packet ≡ outcome → IsAnswer outcome → FitsSpi outcome → IsAnswered core packet
+answered-by : (core : Core) (packet : List ℕ) (outcome : Outcome) → handled core 544 packet ≡ outcome → IsAnswer outcome → Fits 544 outcome → IsAnswered core packet
 answered-by core packet Restarts same answer fits = absurd answer
-answered-by core packet (Answered after status body) same answer fits = record { after = after; status = status; body = body; handled_is = same; fits = fits }
+answered-by core packet (Answered after status body) same answer fits = record { after = after; status = status; body = body; handled_is = same; fits = omega (arith, fits) }
 
 -- a plain packet is answered
 answered : (core : Core) (packet : List ℕ) → IsCoreValid core → IsPlain packet → IsAnswered core packet
-answered core packet valid plain = answered-by core packet (handled core 544 packet) refl (plain-answered packet core 544 plain) (row_of-fits core (asked core packet) valid)
+answered core packet valid plain = answered-by core packet (handled core 544 packet) refl (plain-answered packet core 544 plain) (handled-fits core 544 packet (omega arith) valid)
 
 -- an undisturbed send is served, whatever SPI was doing
 serves-by : (core : Core) (bus : BusState) (packet : List ℕ) (calls : List HostCall) (heard : Heard) (new : Table) → kind_of bus ≡ Spi → IsCoreValid core → IsPlain packet → length packet ≤ 544 → SpiSend packet calls heard → CallsLead (table_of core bus) calls new → ServesPacket packet (table_of core bus) heard new
@@ -157,7 +157,8 @@ pub spi-exchanges : (table : Table) (awake : Awake) (packet : List ℕ) (calls :
 spi-exchanges table awake packet calls heard new after result body valid on kind plain short sent lead same =
     let facts = bus-facts table awake valid on in
     let core = core_of table awake in
-    let fits : length body ≤ 536 = subst (λ (outcome : Outcome). FitsSpi outcome) same (row_of-fits core (asked core packet) facts.core) in
+    let room : 8 + length body ≤ 544 = subst (λ (outcome : Outcome). Fits 544 outcome) same (handled-fits core 544 packet (omega arith) facts.core) in
+    let fits : length body ≤ 536 = omega (arith, room) in
     let led = subst (λ (t : Table). CallsLead t calls new) (as-table table awake on facts.kind) lead in
     exchange-on core after awake.bus packet result body calls heard new (facts.kind ∙ kind) plain short fits same sent led
 

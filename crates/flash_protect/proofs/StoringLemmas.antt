@@ -1,10 +1,9 @@
 -- What storing the bits leaves.
-use Rattle.std.proofs.Common.{◌≡◌, refl, sym, ap, ◌∙◌, ℕ, zero, suc, ◌+◌, ◌-◌, ◌*◌, ◌/◌, ◌≤◌, ◌<◌, Bool, true, false, ◌&&◌, nat_lt, if◌then◌else◌, List, take, drop, length, replicate, slice_range, get_or, arith, Option, Some, None, Result, Ok, Err}
+use Rattle.std.proofs.Common.{◌≡◌, refl, sym, ap, ◌∙◌, ℕ, zero, suc, ◌+◌, ◌-◌, ◌*◌, ◌/◌, ◌≤◌, ◌<◌, Bool, true, false, ◌&&◌, nat_lt, if◌then◌else◌, List, take, drop, length, replicate, slice_range, get_or, arith, Option, Some, None}
 use Rattle.std.specs.Prelude.{IfSome}
 use Rattle.flash_dev.specs.Flash.{block_size}
-use Rattle.flash_ctl.specs.Locks.{no_locks, lock_count, HasLocked, IsLockedIff}
-use Rattle.flash_ctl.specs.declared.CtlErr.{CtlErr}
-use Rattle.flash_ctl.specs.declared.CtlErr.TheVariants.{Locked, Device}
+use Rattle.flash_ctl.specs.Locks.{no_locks, lock_count, is_range_locked, HasLocked}
+use Rattle.flash_ctl.proofs.LockLaws.{has-locked}
 use Rattle.ec_model.specs.Stored.{stored, stored_in, stored_block, has_place, has_mark2, next_slot, slot_count}
 use Rattle.std.proofs.lemmas.Bool.Decides.{leb_tells}
 use Rattle.ec_model.proofs.StoredLemmas.{slots_end, stored_in-take, next_slot-take, mark-take}
@@ -22,11 +21,12 @@ none-locked at size locks free has =
     let none : get_or locks has.0 false ≡ false = ap (λ (xs : List Bool). get_or xs has.0 false) free ∙ unset lock_count has.0 in
     grind (arith, found, none)
 
--- a call is not refused where no block is locked
-pub none-refused : {T : Type 0} (at size : ℕ) (locks : List Bool) (result : Result T CtlErr) (error : CtlErr) → locks ≡ no_locks → result ≡ Err error → error ≡ Locked → IsLockedIff result (HasLocked at size locks) → ⊥
-none-refused at size locks (Ok x) error free is refused has = cc
-none-refused at size locks (Err Locked) error free is refused has = none-locked at size locks free has
-none-refused at size locks (Err (Device fault)) error free is refused has = cc
+-- the same as a test
+pub none-in-range : (at size : ℕ) (locks : List Bool) → locks ≡ no_locks → is_range_locked at size locks ≡ false
+none-in-range at size locks free = by (is_range_locked at size locks) refl where
+  by : (locked : Bool) → is_range_locked at size locks ≡ locked → locked ≡ false
+  by true is = absurd (none-locked at size locks free (has-locked at size locks is))
+  by false is = refl
 
 -- the bytes that a read gives are the first of the block
 read-block : (flash bytes : List ℕ) (size : ℕ) → length flash ≡ size → bytes ≡ slice_range flash (size / 2 - 4096) (size / 2 - 4096 + 1024) → bytes ≡ take 1024 (stored_block flash)

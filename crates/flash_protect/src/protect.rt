@@ -16,7 +16,7 @@ use crate::stored::{Found, begun_range, find, store};
 use ec_model::{AtBoot, ProtectView};
 use ec_types::protection;
 use flash_ctl::Ctl;
-use flash_dev::{DevErr, Failed, FlashDev};
+use flash_dev::{BLOCK_SIZE, DevErr, Failed, FlashDev};
 
 /// The locks that hold until the next boot: RO's, and all; and whether the last boot could not read the stored bits.
 #[derive(Clone, Copy, Debug, PartialEq, Eq)]
@@ -38,9 +38,9 @@ impl Protect {
         self.ro_now = self.ro_now || ro || all;
         self.all_now = self.all_now || all;
         if self.all_now {
-            ctl.lock(0, size / 4096);
+            ctl.lock(0, size / BLOCK_SIZE);
         } else if self.ro_now {
-            ctl.lock(0, size / 2 / 4096);
+            ctl.lock(0, size / 2 / BLOCK_SIZE);
         }
     }
 
@@ -121,7 +121,8 @@ impl Protect {
         requires bits { IfSome ctl.old.device.held (λ flash. stored flash ≡ found.bits) }
         requires place { IfSome ctl.old.device.held (λ flash. record_place flash ≡ found.place) }
         requires inside { IsPlaceIn (ctl.old.device.extent / 2 - 4096) found.place }
-        ensures told { Changes (λ before after. Sets mask flags pin ctl.old.device ctl.new.device self.old before self.new after result.0 result.1) ctl.old.device.held ctl.new.device.held }
+        ensures told { Changes (λ before after. Sets mask flags pin ctl.old.device ctl.new.device
+            self.old before self.new after result.0 result.1) ctl.old.device.held ctl.new.device.held }
         ensures grows { GrowsTo pin self.old self.new }
         // A mask of 0 changes nothing.
         ensures idle { mask ≡ 0 → (self.new ≡ self.old) × IsNone result.0 }
@@ -135,7 +136,7 @@ impl Protect {
         if same(wish, found.bits) || self.ro_now {
             return (None, Ok(self.finish(ctl, pin, found.bits, mask, flags)));
         }
-        let at = ctl.geometry().size() / 2 - 4096;
+        let (at, _size) = ctl.geometry().pstate();
         let (begun, result) = store(ctl, found.place, wish);
         let range = Some(begun_range(at, found.place, begun));
         match result {
@@ -155,7 +156,8 @@ impl Protect {
         flags: u32,
     ) -> (Option<(u32, u32)>, Result<ProtectView, DevErr>)
         requires { Locks self.old ctl.old }
-        ensures told { Changes (λ before after. Sets mask flags pin ctl.old.device ctl.new.device self.old before self.new after result.0 result.1) ctl.old.device.held ctl.new.device.held }
+        ensures told { Changes (λ before after. Sets mask flags pin ctl.old.device ctl.new.device
+            self.old before self.new after result.0 result.1) ctl.old.device.held ctl.new.device.held }
         ensures grows { GrowsTo pin self.old self.new }
         // A mask of 0 changes nothing.
         ensures idle { mask ≡ 0 → (self.new ≡ self.old) × IsNone result.0 }

@@ -15,8 +15,8 @@ ghost use Rattle.flash_protect.specs.Setting.{IsLookedAt, IsPlaceIn, IsFew, IsRa
 
 use crate::block::{self, MARK, READ_LENGTH};
 use ec_model::AtBoot;
-use flash_ctl::{Ctl, CtlErr};
-use flash_dev::{DevErr, Failed, FlashDev};
+use flash_ctl::Ctl;
+use flash_dev::{BLOCK_SIZE, DevErr, Failed, FlashDev};
 
 /// What one read of the block found: the stored bits, and where the next record goes, if it has a place.
 #[derive(Clone, Copy)]
@@ -35,7 +35,7 @@ pub fn find<F: FlashDev>(ctl: &mut Ctl<F>) -> Result<Found, Failed>
     ensures allowed { IsTrue (is_flash_size ctl.old.device.extent) }
     ensures whole { IfSome ctl.old.device.held (λ flash. length flash ≡ ctl.old.device.extent) }
 {
-    let at = ctl.geometry().size() / 2 - 4096;
+    let (at, _size) = ctl.geometry().pstate();
     let mut bytes = [0u8; READ_LENGTH];
     match ctl.read(at, &mut bytes) {
         Ok(()) => Ok(Found {
@@ -53,11 +53,7 @@ fn erase_free<F: FlashDev>(ctl: &mut Ctl<F>, block: u32) -> Result<(), DevErr>
     ensures change { IsChange (Erase block) ctl.old.device ctl.new.device result }
     ensures locks { ctl.new.locks ≡ no_locks }
 {
-    match ctl.erase_block(block) {
-        Ok(()) => Ok(()),
-        Err(CtlErr::Device(error)) => Err(error),
-        Err(CtlErr::Locked) => unreachable!(),
-    }
+    ctl.erase_free(block)
 }
 
 // Programs bytes, where no block is locked.
@@ -71,11 +67,7 @@ fn program_free<F: FlashDev>(ctl: &mut Ctl<F>, at: u32, bytes: &[u8]) -> Result<
     ensures change { IsChange (Program at bytes.now) ctl.old.device ctl.new.device result }
     ensures locks { ctl.new.locks ≡ no_locks }
 {
-    match ctl.program(at, bytes) {
-        Ok(()) => Ok(()),
-        Err(CtlErr::Device(error)) => Err(error),
-        Err(CtlErr::Locked) => unreachable!(),
-    }
+    ctl.program_free(at, bytes)
 }
 
 // Writes a record: its word, and then its gate. Gives how many operations were begun, too.
@@ -116,7 +108,7 @@ fn begin_anew<F: FlashDev>(ctl: &mut Ctl<F>, at: u32, bits: AtBoot) -> (u32, Res
     ensures wear { RisesAtMost result.0 ctl.old.device.wear ctl.new.device.wear }
     ensures spent { Costs (hurt_of result.1) 0 ctl.old.device ctl.new.device }
 {
-    let erased = erase_free(ctl, at / 4096);
+    let erased = erase_free(ctl, at / BLOCK_SIZE);
     if erased.is_err() {
         return (1, erased);
     }
@@ -137,14 +129,15 @@ pub fn store<F: FlashDev>(
 ) -> (u32, Result<(), DevErr>)
     requires inside { IsPlaceIn (ctl.old.device.extent / 2 - 4096) place }
     requires free { ctl.old.locks ≡ no_locks }
-    ensures ran { Changes (HasBegun result.0 (operations_at (ctl.old.device.extent / 2 - 4096) place bits) ctl.old.device ctl.new.device result.1) ctl.old.device.held ctl.new.device.held }
+    ensures ran { Changes (HasBegun result.0 (operations_at (ctl.old.device.extent / 2 - 4096) place bits)
+        ctl.old.device ctl.new.device result.1) ctl.old.device.held ctl.new.device.held }
     ensures some { 1 ≤ result.0 }
     ensures few { IsFew place result.0 }
     ensures locks { ctl.new.locks ≡ no_locks }
     ensures wear { RisesAtMost result.0 ctl.old.device.wear ctl.new.device.wear }
     ensures spent { Costs (hurt_of result.1) 0 ctl.old.device ctl.new.device }
 {
-    let at = ctl.geometry().size() / 2 - 4096;
+    let (at, _size) = ctl.geometry().pstate();
     match place {
         Some(place) => write_record(ctl, place, bits),
         None => begin_anew(ctl, at, bits),
@@ -162,6 +155,6 @@ pub fn begun_range(at: u32, place: Option<u32>, begun: u32) -> (u32, u32)
 {
     match place {
         Some(place) => (place, 4 * begun),
-        None => (at, 4096),
+        None => (at, BLOCK_SIZE),
     }
 }

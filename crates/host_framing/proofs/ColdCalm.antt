@@ -1,14 +1,13 @@
 -- What the sending of a request that has no reply leaves where nothing disturbs it: the request was handled.
-use Rattle.std.proofs.Common.{◌≡◌, refl, sym, ap, ◌∙◌, subst, ℕ, ◌+◌, ◌≤◌, Bool, true, false, nat_lt, None, List, [], ◌∷◌, ◌++◌, length, take, drop, replicate, append_assoc, append-nil, length-append, length-take, arith}
+use Rattle.std.proofs.Common.{◌≡◌, refl, sym, ap, ◌∙◌, subst, ℕ, ◌+◌, ◌≤◌, Bool, true, false, None, List, [], ◌∷◌, ◌++◌, length, take, replicate, append_assoc, append-nil, length-take, arith}
 use Rattle.std.proofs.lemmas.List.{length-replicate}
 use Rattle.flash_dev.specs.Flash.{overwritten}
-use Rattle.ec_types.specs.LittleEndian.{u16_at}
 use Rattle.ec_types.specs.Tables.{packet_limit}
 use Rattle.ec_types.specs.declared.bus.BusKind.{BusKind}
 use Rattle.ec_types.specs.declared.bus.BusKind.TheVariants.{Lpc, I2c, Spi}
 use Rattle.ec_model.specs.declared.event.Access.TheVariants.{PortOut, I2cStartRead, I2cStop, SpiSelect, SpiDeselect}
 use Rattle.ec_model.specs.Packet.{response_packet}
-use Rattle.ec_model.specs.Bus.{BusState, I2cState, SpiState, OnLpc, OnI2c, OnSpi, Idle, Asked, Deselected, Receiving, Waiting, kind_of, low_status}
+use Rattle.ec_model.specs.Bus.{BusState, I2cState, SpiState, OnLpc, OnI2c, OnSpi, Idle, Asked, Deselected, Waiting, kind_of, low_status}
 use Rattle.ec_model.specs.HostCalls.{HostCall, Did, Waited, calls_of}
 use Rattle.ec_model.specs.Heard.{spaced_reads, port_writes, i2c_writes, spi_writes}
 use Rattle.ec_model.specs.SendLpc.{status_in}
@@ -17,17 +16,18 @@ use Rattle.ec_model.specs.Run.{IsRun}
 use Rattle.ec_model.specs.Upset.{IsUndisturbed}
 use Rattle.ec_model.specs.Table.{Table, Awake, On, Core, Valid, core_of, table_of}
 use Rattle.ec_model.specs.Answer.{Outcome, Answered, Restarts}
-use Rattle.ec_model.specs.Handle.{handled, row_of, admitted_from}
+use Rattle.ec_model.specs.Handle.{handled}
 use Rattle.ec_model.specs.WholeStep.{after_outcome}
 use Rattle.ec_model.specs.Syncable.{settled}
 use Rattle.ec_wire.specs.Calls.{WireView, Agrees}
 use Rattle.exchange_laws.specs.Calm.{CallsLead}
-use Rattle.exchange_laws.proofs.Framed.{framing-append}
 use Rattle.exchange_laws.proofs.LpcFirst.{Idled}
 use Rattle.exchange_laws.proofs.LpcLead.{lpc, writes-lead, command-lead, tick-lead}
-use Rattle.exchange_laws.proofs.LpcSend.{as-table, bus-facts, idled-at, settled-valid, window-whole}
+use Rattle.exchange_laws.proofs.Settled.{as-table, bus-facts, settled-valid}
+use Rattle.exchange_laws.proofs.LpcSend.{handled-window, idled-at, window-whole}
 use Rattle.exchange_laws.proofs.I2cLead.{start-lead, writes-lead as i2c-written, all-taken}
-use Rattle.exchange_laws.proofs.SpiMakes.{received-whole, received-by}
+use Rattle.exchange_laws.proofs.I2cSend.{taken-size}
+use Rattle.exchange_laws.proofs.SpiLead.{request-lead}
 use Rattle.host_framing.specs.Clean.{since}
 use Rattle.host_framing.specs.ColdParts.{SendsCold, IsSized, IsLeft, HandlesPacket, ResetsWhereCalm}
 use Rattle.host_framing.proofs.CleanLemmas.{OnOrOff, IsOff, IsOn, on-or-off, off-on, changes-map, lead-since}
@@ -35,10 +35,6 @@ use Rattle.host_framing.proofs.CleanLemmas.{OnOrOff, IsOff, IsOn, on-or-off, off
 -- a request was handled on a controller that is on
 handles-on : (core : Core) (bus : BusState) (packet : List ℕ) (new : Table) → IsLeft (table_of core bus) (handled core (packet_limit (kind_of bus)) packet) new → HandlesPacket packet (table_of core bus) new
 handles-on core bus packet new leaves = record { awake = record { live = core.live; nonce = core.nonce; bus = bus }; on = refl; leaves = leaves }
-
--- LPC: the packet at the front of the window is the request
-handled-window : (core : Core) (packet window : List ℕ) → IsSized packet → handled core 256 (overwritten 0 packet window) ≡ handled core 256 packet
-handled-window core packet window sized = ap (λ (f : _). row_of core 256 (admitted_from core f)) (framing-append packet (drop (0 + length packet) window) sized.header sized.whole)
 
 -- LPC: what the tick leaves
 lpc-left : (core : Core) (window asked : List ℕ) (status outcome : ℕ) (result : Outcome) (new : Table) → CallsLead (after_outcome core (record { state = lpc asked 0x06 0xFF; answer = 0 }) 0 result).table [] new → IsLeft (table_of core (lpc window status outcome)) result new
@@ -57,7 +53,7 @@ lpc-polled told seen packet gots got ready left valid sized short each at =
     let size = window-whole at.core at.window at.status at.outcome (subst (λ (t : Table). Valid t) at.same valid) in
     let written = writes-lead at.core at.window at.status at.outcome 0x800 0 packet gots (Did (PortOut 0x204 0xDA) got ∷ Waited ∷ []) left refl (omega (arith, short)) size at.idle each at.lead in
     let commanded = command-lead at.core window at.status at.outcome got (Waited ∷ []) left at.idle written.1 in
-    let ticked = tick-lead at.core window 0xFF (handled at.core 256 packet) [] left (handled-window at.core packet at.window sized) commanded.1 in
+    let ticked = tick-lead at.core window 0xFF (handled at.core 256 packet) [] left (handled-window at.core packet at.window sized.header sized.whole) commanded.1 in
     subst (λ (t : Table). HandlesPacket packet t left) (sym at.same)
     (handles-on at.core (lpc at.window at.status at.outcome) packet left (lpc-left at.core at.window window at.status at.outcome (handled at.core 256 packet) left ticked))
 
@@ -81,10 +77,6 @@ lpc-handles told awake packet calls left valid on kind sized short (LpcColdDone 
 i2c-left : (core : Core) (state : I2cState) (packet : List ℕ) (stopped : ℕ) (result : Outcome) (new : Table) → CallsLead (after_outcome core (record { state = OnI2c (Asked packet); answer = 0 }) 0xFF result).table (Did I2cStop stopped ∷ []) new → IsLeft (table_of core (OnI2c state)) result new
 i2c-left core state packet stopped (Answered after status body) new lead = record { bus = OnI2c (Idle []); same = lead.1; none_waits = refl }
 i2c-left core state packet stopped Restarts new lead = lead.1
-
--- I2C: where some byte was not taken, as many answers as bytes were seen
-taken-size : (taken got : ℕ) (packet : List ℕ) → taken ≤ length packet → length (replicate taken 0 ++ got ∷ []) ≡ length (take (taken + 1) (0xDA ∷ packet))
-taken-size taken got packet some = omega (arith, some, length-append (replicate taken 0) (got ∷ []), length-replicate {A = ℕ} taken 0, length-take (taken + 1) (0xDA ∷ packet))
 
 -- I2C: the request is handled
 i2c-handles : (core : Core) (state : I2cState) (packet : List ℕ) (calls : List HostCall) (new : Table) → length packet ≤ 128 → I2cCold packet calls → CallsLead (table_of core (OnI2c state)) calls new → HandlesPacket packet (table_of core (OnI2c state)) new
@@ -113,33 +105,14 @@ spi-left : (core : Core) (state : SpiState) (packet : List ℕ) (stopped : ℕ) 
 spi-left core state packet stopped (Answered after status body) new lead = record { bus = OnSpi Deselected; same = lead.1; none_waits = refl }
 spi-left core state packet stopped Restarts new lead = lead.1
 
--- SPI: behind its last byte the request waits
-spi-waits : (core : Core) (front bytes gots : List ℕ) (calls : List HostCall) (new : Table) → 1 ≤ length bytes → length (front ++ bytes) ≡ 8 + u16_at 6 (front ++ bytes) → u16_at 6 (front ++ bytes) ≤ 536 → length gots ≡ length bytes →
-    CallsLead (table_of core (OnSpi (Receiving front))) (spi_writes bytes gots ++ calls) new → CallsLead (table_of core (OnSpi (Waiting (front ++ bytes)))) calls new
-spi-waits core front [] gots calls new some whole short each lead = absurd (omega (arith, some))
-spi-waits core front (byte ∷ bytes) [] calls new some whole short each lead = absurd (omega (arith, each))
-spi-waits core front (byte ∷ []) (got ∷ other ∷ gots) calls new some whole short each lead = absurd (omega (arith, each))
-spi-waits core front (byte ∷ []) (got ∷ []) calls new some whole short each lead =
-    subst (λ (state : SpiState). CallsLead (table_of core (OnSpi state)) calls new) (received-whole (front ++ byte ∷ []) whole short) lead.1
-spi-waits core front (byte ∷ next ∷ bytes) (got ∷ gots) calls new some whole short each lead =
-    let joined = sym (append_assoc front (byte ∷ []) (next ∷ bytes)) in
-    let later_whole = subst (λ (xs : List ℕ). length xs ≡ 8 + u16_at 6 xs) joined whole in
-    let later_short = subst (λ (xs : List ℕ). u16_at 6 xs ≤ 536) joined short in
-    let received = received-by (nat_lt (length (front ++ byte ∷ [])) 8) (front ++ byte ∷ []) (next ∷ bytes) refl (omega arith) later_whole later_short in
-    let moved = subst (λ (state : SpiState). CallsLead (table_of core (OnSpi state)) (spi_writes (next ∷ bytes) gots ++ calls) new) received lead.1 in
-    subst (λ (xs : List ℕ). CallsLead (table_of core (OnSpi (Waiting xs))) calls new) (sym joined)
-    (spi-waits core (front ++ byte ∷ []) (next ∷ bytes) gots calls new (omega arith) later_whole later_short (omega (arith, each)) moved)
-
 -- SPI: the request is handled
 spi-handles : (core : Core) (state : SpiState) (packet : List ℕ) (calls : List HostCall) (new : Table) → IsSized packet → length packet ≤ 544 → SpiColdSent packet calls → CallsLead (table_of core (OnSpi state)) calls new → HandlesPacket packet (table_of core (OnSpi state)) new
 spi-handles core state packet calls new sized short sent lead =
     let rest = Waited ∷ Did SpiDeselect sent.stopped ∷ [] in
     let led : CallsLead (table_of core (OnSpi state)) (Did SpiSelect sent.asked.selected ∷ (spi_writes packet sent.asked.gots ++ rest)) new =
     subst (λ (xs : List HostCall). CallsLead (table_of core (OnSpi state)) xs new) (sent.made ∙ ap (λ (xs : List HostCall). xs ++ rest) sent.asked.made) lead in
-    let some : 1 ≤ length packet = omega (arith, sized.header) in
-    let fits : u16_at 6 packet ≤ 536 = omega (arith, sized.whole, short) in
-    let waits = spi-waits core [] packet sent.asked.gots rest new some sized.whole fits sent.asked.each led.1 in
-    handles-on core (OnSpi state) packet new (spi-left core state packet sent.stopped (handled core 544 packet) new waits)
+    let waits = request-lead core packet sent.asked.gots rest new sized.header sized.whole short sent.asked.each led.1 in
+    handles-on core (OnSpi state) packet new (spi-left core state packet sent.stopped (handled core 544 packet) new waits.1)
 
 -- the same by the bus, where a request that is due is none of a settled table's
 handles-at : (core : Core) (bus : BusState) (kind : BusKind) (packet : List ℕ) (calls : List HostCall) (new : Table) → kind_of bus ≡ kind → IsSized packet → length packet ≤ packet_limit kind → ColdBy kind packet calls → (kind ≡ Lpc → ⊥) → CallsLead (table_of core bus) calls new → HandlesPacket packet (settled (table_of core bus)) new

@@ -2,7 +2,6 @@
 use Rattle.std.proofs.Common.{◌≡◌, refl, sym, ap, ◌∙◌, subst, ℕ, suc, ◌+◌, ◌<◌, ◌≤◌, Bool, true, false, if◌then◌else◌, List, [], ◌∷◌, ◌++◌, length, take, replicate, get_or, append_assoc, length-take, arith}
 use Rattle.std.proofs.lemmas.List.{take_more, length-replicate, replicate-append-replicate}
 use Rattle.ec_types.specs.declared.bus.BusKind.TheVariants.{I2c}
-use Rattle.ec_model.specs.declared.event.Access.{Access}
 use Rattle.ec_model.specs.declared.event.Access.TheVariants.{I2cStartWrite, I2cStartRead, I2cWrite, I2cRead, I2cStop}
 use Rattle.ec_model.specs.HostCalls.{HostCall, Did}
 use Rattle.ec_model.specs.Heard.{Heard, Bad, Silent, i2c_writes, reads_in_row, heard_if, heard_with}
@@ -10,7 +9,6 @@ use Rattle.ec_model.specs.SendI2c.{I2cSend, I2cWasUnstarted, I2cWasUnwritten, I2
 use Rattle.ec_wire.specs.Calls.{WireView, Made}
 use Rattle.ec_wire.proofs.Growth.{made-then, made-as}
 use Rattle.host_framing.specs.Parts.{Quiets, Sends}
-use Rattle.host_framing.proofs.PollLemmas.{reads_in_row-append}
 use Rattle.host_framing.specs.I2cParts.{IsRefused, IsCutShort, I2cReads, I2cHears, I2cTalks}
 
 -- more writes in a row

@@ -18,7 +18,7 @@ use Rattle.ec_wire.specs.Calls.{WireView, Agrees}
 use Rattle.exchange_laws.specs.Calm.{CallsLead}
 use Rattle.exchange_laws.specs.Served.{IsPlain, ServesPacket}
 use Rattle.exchange_laws.specs.Transaction.{spi_transaction}
-use Rattle.exchange_laws.proofs.LpcSend.{bus-facts}
+use Rattle.exchange_laws.proofs.Settled.{bus-facts}
 use Rattle.exchange_laws.proofs.SpiSend.{spi-settled, spi-calm, spi-exchange, spi-quiet}
 use Rattle.exchange_laws.proofs.SpiOff.{spi-off}
 use Rattle.exchange_laws.proofs.SpiRests.{spi-rests as rests-behind}

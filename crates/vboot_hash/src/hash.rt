@@ -12,7 +12,7 @@ use arrayvec::ArrayVec;
 use ec_model::HashView;
 use ec_types::KeptHash;
 use flash_ctl::Ctl;
-use flash_dev::{Failed, FlashDev};
+use flash_dev::{Failed, FlashDev, overlap};
 use sha2::{Digest, Sha256};
 use std::marker::Model;
 
@@ -43,14 +43,6 @@ fn ticks(size: u32) -> u32
     ensures { result ≡ ticks_of size }
 {
     (size - 1) / TICK_LENGTH + 1
-}
-
-// Whether two ranges have a byte in common, where neither is empty.
-fn overlap(at: u32, size: u32, other_at: u32, other_size: u32) -> bool
-    ensures { result ≡ is_hash_over (record { at = at; size = size }) (Busy other_at other_size 1) }
-{
-    u64::from(at) < u64::from(other_at) + u64::from(other_size)
-        && u64::from(other_at) < u64::from(at) + u64::from(size)
 }
 
 impl Hash {

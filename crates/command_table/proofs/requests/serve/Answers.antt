@@ -1,16 +1,18 @@
-use Rattle.std.proofs.Common.{rules, refl}
+use Rattle.std.proofs.Common.{rules, refl, length}
 use Rattle.ec_packet.specs.Read.{request_view}
 use Rattle.ec_model.specs.Handle.{admitted}
 use Rattle.ec_model.specs.Bodies.{flash_write_ask, flash_erase_ask}
 use Rattle.ec_boot.specs.States.{RunView}
 use Rattle.command_table.specs.declared.asks.Ask.TheVariants.{FlashWrite, FlashErase, FlashProtect, Reboot}
 use Rattle.command_table.proofs.ServeLemmas.{finds-ask, write-not, erase-not, restarts-not, leaves-as, served-as}
+use Rattle.command_table.proofs.WearLemmas.{wears-as, write-wears}
 use Rattle.command_table.proofs.requests.serve.Goals as goal
 
 pub returns-in-Ok-FlashWrite : goal.returns-in-Ok-FlashWrite
 returns-in-Ok-FlashWrite g c =
     let is = c.in-Ok-FlashWrite in
     let old : RunView = g.R.Running.run c.args.state.now in
+    let new : RunView = g.R.Running.run c.flash_write.new.state in
     let request = request_view c.args.request.now in
     let same = finds-ask request old c.live.result c.is_some-erasing.result is.field-0 (FlashWrite is.ask) c.live.ensures.live c.is_some-erasing.ensures is.field-0-is is.ensures.admitted in
     record {
@@ -18,6 +20,7 @@ returns-in-Ok-FlashWrite g c =
       leaves = search rules;
       pin = search rules;
       spent = search rules;
+      wear = wears-as (λ core. admitted core request) _ old new.device same (λ core live. write-wears (length is.ask.bytes.now) old.device.wear new.device.wear (search rules) c.flash_write.ensures.wear);
       short = search rules;
     }
 
@@ -32,6 +35,7 @@ returns-in-Ok-FlashErase g c =
       leaves = search rules;
       pin = search rules;
       spent = search rules;
+      wear = search rules;
       short = search rules;
     }
 
@@ -47,6 +51,7 @@ returns-in-Ok-FlashProtect g c =
       leaves = leaves-as c.args.limit (λ core. admitted core request) _ c.flash_protect.new.reply.hurt c.flash_protect.new.reply.status c.flash_protect.new.reply.body old new same c.flash_protect.ensures.leaves;
       pin = search rules;
       spent = search rules;
+      wear = wears-as (λ core. admitted core request) _ old new.device same (λ core live. c.flash_protect.ensures.wear);
       short = search rules;
     }
 

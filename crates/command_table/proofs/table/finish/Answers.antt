@@ -1,9 +1,14 @@
 use Rattle.std.proofs.Common.{rules}
 use Rattle.ec_boot.specs.States.{RunView, told_core}
 use Rattle.ec_boot.specs.Either.{run_of}
-use Rattle.command_table.proofs.AfterLemmas.{dealt-on, on-answered, on-guarded, jump-made}
+use Rattle.command_table.proofs.AfterLemmas.{dealt-on, dealt-off, on-answered, on-guarded, jump-made}
 use Rattle.command_table.proofs.GuardLemmas.{lost-guard, guard-then}
 use Rattle.command_table.proofs.table.finish.Goals as goal
+
+pub returns-in-Cut-clause-row : goal.returns-in-Cut-clause-row
+returns-in-Cut-clause-row g c = λ limit finds old least served.
+    let told = c.args.reply.now in
+    dealt-off limit finds told.hurt told.status told.body old (run_of c.args.state) c.cut.result (search rules) c.cut.ensures.device (rw c.in-Stays.is at served)
 
 pub returns-in-Cut-clause-guard : goal.returns-in-Cut-clause-guard
 returns-in-Cut-clause-guard g c = λ old pin guard.

@@ -1,7 +1,6 @@
 use Rattle.std.proofs.Common.{length}
-use Rattle.flash_protect.proofs.StoringLemmas.{none-refused}
+use Rattle.flash_protect.proofs.StoringLemmas.{none-in-range}
 use Rattle.flash_protect.proofs.stored.program_free.Goals as goal
 
-pub unreachable-requires : goal.unreachable-requires
-unreachable-requires g c =
-    none-refused c.args.at (length c.args.bytes.now) c.args.ctl.now.locks c.program.result c.in-Err-Locked.field-0 c.requires.free c.in-Err-Locked.is c.in-Err-Locked.field-0-is c.program.ensures.locked
+pub program_free-requires-clause-free : goal.program_free-requires-clause-free
+program_free-requires-clause-free g c = none-in-range c.args.at (length c.args.bytes.now) c.args.ctl.now.locks c.requires.free

@@ -1,6 +1,7 @@
-use Rattle.std.proofs.Common.{◌≡◌, ◌∙◌, ap, true, inl, inr, sym, subst, ◌-◌, ◌/◌, Result}
+use Rattle.std.proofs.Common.{◌≡◌, ◌∙◌, ap, true, inl, inr, sym, subst, ℕ, ◌-◌, ◌/◌, take, Some, Result}
+use Rattle.flash_dev.specs.Flash.{block_size}
 use Rattle.flash_dev.specs.declared.device.DevErr.{DevErr}
-use Rattle.flash_protect.specs.Setting.{operations_at}
+use Rattle.flash_protect.specs.Setting.{operations_at, covering}
 use Rattle.flash_dev.specs.Told.{Changes}
 use Rattle.flash_dev.specs.Costs.{HasBegun}
 use Rattle.flash_protect.proofs.SettingLemmas.{set-done, set-stopped, set-idle}
@@ -12,12 +13,13 @@ use Rattle.flash_protect.proofs.protect.Protect.set_from.Goals as goal
 
 pub returns-in-Ok-clause-told : goal.returns-in-Ok-clause-told
 returns-in-Ok-clause-told g c =
-    let size : c.size.result ≡ c.args.ctl.now.device.extent = c.size.ensures.size ∙ c.geometry.ensures.size in
+    let at_is : c.pstate-at.result.0 ≡ c.args.ctl.now.device.extent / 2 - block_size =
+    ap (λ (range : ℕ × ℕ). range.0) c.pstate-at.ensures ∙ ap (λ (size : ℕ). size / 2 - block_size) c.geometry.ensures.size in
     rw c.finish-in-Ok.ensures.device
     (set-done c.args.mask c.args.flags c.args.pin c.args.ctl.now.device c.store-begun.new.ctl.device c.args.self.now c.finish-in-Ok.new.self c.args.ctl.now.device.held c.store-begun.new.ctl.device.held c.args.ctl.now.device.extent c.args.found.place c.args.found.bits
     c.wanted-wish.result c.store-begun.result.0 c.begun_range.result c.in-Ok.field-0 c.finish-in-Ok.result
     (record {
-      allowed = rw (← size) c.size.ensures.allowed;
+      allowed = rw (← c.geometry.ensures.size) c.geometry.ensures.allowed;
       size_is = c.geometry.ensures.whole;
       bits_are = c.requires.bits;
       place_is = c.requires.place;
@@ -26,16 +28,17 @@ returns-in-Ok-clause-told g c =
       open_now = c.if-self.false;
     })
     (subst (λ (r : Result (Unit {0}) DevErr). Changes (HasBegun c.store-begun.result.0 (operations_at (c.args.ctl.now.device.extent / 2 - 4096) c.args.found.place c.wanted-wish.result) c.args.ctl.now.device c.store-begun.new.ctl.device r) c.args.ctl.now.device.held c.store-begun.new.ctl.device.held) c.in-Ok.is c.store-begun.ensures.ran)
-    (rw (← size) (c.begun_range.ensures.covers c.wanted-wish.result))
+    (subst (λ (at : ℕ). Some c.begun_range.result ≡ covering (take c.store-begun.result.0 (operations_at at c.args.found.place c.wanted-wish.result))) at_is (c.begun_range.ensures.covers c.wanted-wish.result))
     c.finish-in-Ok.ensures.done c.finish-in-Ok.ensures.shown)
 
 pub returns-in-Err-clause-told : goal.returns-in-Err-clause-told
 returns-in-Err-clause-told g c =
-    let size : c.size.result ≡ c.args.ctl.now.device.extent = c.size.ensures.size ∙ c.geometry.ensures.size in
+    let at_is : c.pstate-at.result.0 ≡ c.args.ctl.now.device.extent / 2 - block_size =
+    ap (λ (range : ℕ × ℕ). range.0) c.pstate-at.ensures ∙ ap (λ (size : ℕ). size / 2 - block_size) c.geometry.ensures.size in
     set-stopped c.args.mask c.args.flags c.args.pin c.args.ctl.now.device c.store-begun.new.ctl.device c.args.self.now c.args.ctl.now.device.held c.store-begun.new.ctl.device.held c.args.ctl.now.device.extent c.args.found.place c.args.found.bits
     c.wanted-wish.result c.store-begun.result.0 c.begun_range.result c.in-Err.error
     (record {
-      allowed = rw (← size) c.size.ensures.allowed;
+      allowed = rw (← c.geometry.ensures.size) c.geometry.ensures.allowed;
       size_is = c.geometry.ensures.whole;
       bits_are = c.requires.bits;
       place_is = c.requires.place;
@@ -44,7 +47,7 @@ returns-in-Err-clause-told g c =
       open_now = c.if-self.false;
     })
     (subst (λ (r : Result (Unit {0}) DevErr). Changes (HasBegun c.store-begun.result.0 (operations_at (c.args.ctl.now.device.extent / 2 - 4096) c.args.found.place c.wanted-wish.result) c.args.ctl.now.device c.store-begun.new.ctl.device r) c.args.ctl.now.device.held c.store-begun.new.ctl.device.held) c.in-Err.is c.store-begun.ensures.ran)
-    (rw (← size) (c.begun_range.ensures.covers c.wanted-wish.result))
+    (subst (λ (at : ℕ). Some c.begun_range.result ≡ covering (take c.store-begun.result.0 (operations_at at c.args.found.place c.wanted-wish.result))) at_is (c.begun_range.ensures.covers c.wanted-wish.result))
 
 pub returns-then-same-clause-told : goal.returns-then-same-clause-told
 returns-then-same-clause-told g c =
