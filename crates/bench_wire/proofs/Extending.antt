@@ -4,7 +4,6 @@ use Rattle.std.specs.Prelude.{count_by}
 use Rattle.ec_model.specs.declared.event.Entry.{Entry}
 use Rattle.ec_model.specs.HostCalls.{on_after}
 use Rattle.ec_model.specs.Upset.{is_cut_entry}
-use Rattle.flash_dev.specs.Told.{Changes}
 use Rattle.ec_model.specs.Table.{Table}
 use Rattle.ec_model.proofs.PlayRuns.{calls-append}
 use Rattle.ec_wire.specs.Calls.{WireView, RoseBy, Grows, PlaysAlong, ArePowerless, bench_of, is_failed_entry, with_spare}
@@ -13,7 +12,7 @@ use Rattle.ec_wire.proofs.Appends.{runs-append, runs-nil, on_after-append, count
 use Rattle.bench_wire.specs.Adding.{Extends, PlaysBy}
 
 -- a count that rose along two lists of entries
-rose-along : (test : Entry → Bool) (first second : List Entry) (before middle now : ℕ) → RoseBy (count_by test first) before middle → RoseBy (count_by test second) middle now → RoseBy (count_by test (first ++ second)) before now
+pub rose-along : (test : Entry → Bool) (first second : List Entry) (before middle now : ℕ) → RoseBy (count_by test first) before middle → RoseBy (count_by test second) middle now → RoseBy (count_by test (first ++ second)) before now
 rose-along test first second before middle now once again =
     subst (λ (amount : ℕ). RoseBy amount before now) (sym (count_by-append test first second))
     (record { later = omega (arith, once.later, again.later); risen = omega (arith, once.risen, again.risen, again.later) })
@@ -48,7 +47,6 @@ extends-then first second old middle new once again =
       entries = again.entries ∙ ap (λ (entries : List Entry). entries ++ second) once.entries ∙ append_assoc old.entries first second;
       on = again.on ∙ ap (λ (on : Bool). on_after second on) once.on ∙ sym (on_after-append first second old.on);
       bus = again.bus ∙ once.bus;
-      armed = λ off. again.armed (once.armed off);
       powerless = powerless-then old.on first second once.powerless (subst (λ (on : Bool). ArePowerless on second) once.on again.powerless);
       faults = rose-along is_failed_entry first second old.faults middle.faults new.faults once.faults again.faults;
       cuts = rose-along is_cut_entry first second old.cuts middle.cuts new.cuts once.cuts again.cuts;
@@ -63,7 +61,6 @@ extends-grows added old new grows =
       entries = grows.entries;
       on = grows.on;
       bus = grows.bus;
-      armed = λ off. (grows.quiet off).disarmed;
       powerless = grows.powerless;
       faults = grows.faults;
       cuts = grows.cuts;
@@ -78,7 +75,6 @@ extends-nil spare view =
       entries = sym (append-nil view.entries);
       on = refl;
       bus = refl;
-      armed = λ off. off;
       powerless = tt;
       faults = record { later = omega arith; risen = omega arith };
       cuts = record { later = omega arith; risen = omega arith };

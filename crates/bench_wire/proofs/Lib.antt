@@ -1,2 +1,7 @@
+pub mod ArmsLemmas
+pub mod Arming
+pub mod Stepping
 pub mod Adding
 pub mod Extending
+pub mod Falling
+pub mod Calling

@@ -1,2 +1,4 @@
+pub mod Arming
 pub mod BenchView
 pub mod Adding
+pub mod Falling

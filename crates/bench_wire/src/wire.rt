@@ -20,18 +20,29 @@ impl<B: Bus + Drop, F: FlashDev> Wire for Bench<B, F> {
     }
 
     fn access(&mut self, a: Access) -> u8 {
-        self.step(Event::Access { a })
+        if self.arms.is_empty() {
+            self.step(Event::Access { a })
+        } else {
+            self.access_armed(a)
+        }
     }
 
     fn wait(&mut self) {
-        let _ = self.step(Event::Tick);
+        if self.arms.is_empty() {
+            let _ = self.step(Event::Tick);
+        } else {
+            self.wait_armed();
+        }
     }
 
     fn reserve(&mut self, n: usize) -> Result<(), AllocError> {
-        self.journal.reserve(n)
+        let Some(entries) = n.checked_add(self.arms.room()) else {
+            return Err(AllocError);
+        };
+        self.journal.reserve(entries)
     }
 
     fn spare(&self) -> usize {
-        self.journal.spare()
+        self.journal.spare() - self.arms.room()
     }
 }

@@ -1,6 +1,9 @@
-use Rattle.std.proofs.Common.{refl}
-use Rattle.bench_wire.proofs.Adding.{access-adds}
+use Rattle.std.proofs.Common.{◌≡◌, ◌∙◌, [], sym, ap}
+use Rattle.bench_wire.specs.BenchView.{BenchView}
+use Rattle.bench_wire.proofs.Calling.{access-unarmed}
 use Rattle.bench_wire.proofs.wire.BenchWire.access.Goals as goal
 
-pub returns-clause-adds : goal.returns-clause-adds
-returns-clause-adds g c = access-adds c.args.a c.step.result _ _ _ refl c.step.ensures.adds c.step.ensures.plays
+pub returns-then-is_empty-clause-adds : goal.returns-then-is_empty-clause-adds
+returns-then-is_empty-clause-adds g c =
+    let none : c.args.self.now.armed ≡ [] = ap (λ (bench : BenchView). bench.armed) (sym c.self.view_is) ∙ c.is_empty.ensures.0 c.if-is_empty.true in
+    access-unarmed c.args.a c.step.result c.step.new.self.controller.hurt _ _ none c.step.ensures.steps
