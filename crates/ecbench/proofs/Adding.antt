@@ -1,154 +1,311 @@
 -- Entries that a line adds.
-use Rattle.std.proofs.Common.{◌≡◌, refl, sym, ap, ◌∙◌, subst, ℕ, Bool, List, [], ◌∷◌, codes, inl, inr, Option, Result, Ok, Err}
+use Rattle.std.proofs.Common.{◌≡◌, refl, sym, ap, ◌∙◌, subst, ℕ, ◌+◌, ◌≤◌, Bool, false, cond, List, [], ◌∷◌, length, append-nil, codes, inl, inr, Option, Some, None, Result, Ok, Err, arith}
+use Rattle.std.specs.Prelude.{IsErr, IsErrAnd, IfSome, count_by}
+use Rattle.ec_model.specs.Upset.{is_cut_entry}
 use Rattle.ec_types.specs.Tables.{packet_limit}
-use Rattle.ec_types.specs.declared.bus.BusKind.{BusKind}
-use Rattle.ec_model.specs.declared.event.Event.{Event}
 use Rattle.ec_model.specs.declared.event.WorldEvent.{WorldEvent}
 use Rattle.ec_model.specs.declared.event.Entry.{Entry}
 use Rattle.ec_model.specs.declared.event.Entry.TheVariants.{Step, Mark}
-use Rattle.ec_model.specs.HostCalls.{on_after, on_after_entry}
-use Rattle.ec_wire.specs.Calls.{WireView, with_spare}
-use Rattle.bench_wire.specs.Adding.{Extends, IsEvent}
+use Rattle.ec_model.specs.Table.{Table}
+use Rattle.ec_model.specs.Bench.{BenchCall, Happens as HappensNow, Marks, Arms as ArmEvent, ArmsCut, has_place, cut_at}
+use Rattle.ec_wire.specs.Calls.{WireView, IsAgreed, RunsAlong, RoseBy, bench_of, with_spare}
+use Rattle.ec_wire.proofs.Appends.{runs-nil}
+use Rattle.bench_wire.specs.Adding.{Extends, PlaysBy, IsMarked}
+use Rattle.bench_wire.specs.Arming.{IsArmed}
+use Rattle.bench_wire.specs.declared.arms.ArmsFull.{ArmsFull}
 use Rattle.bench_wire.proofs.Extending.{extends-then, extends-grows, extends-nil}
+use Rattle.ectool_lines.specs.declared.tool.Tool.{Tool}
+use Rattle.ectool_lines.specs.Tools.{IsInRange}
 use Rattle.ectool_lines.specs.Requests.{commands_of}
-use Rattle.ectool_lines.specs.Texts.{printed}
+use Rattle.ectool_lines.specs.Texts.{LineEnd, printed}
 use Rattle.ectool_lines.specs.Asking.{AsksEach, Hears}
+use Rattle.ectool_lines.specs.Running.{Carries, RunsTool, Appends}
+use Rattle.bench_io.specs.Printing.{Prints}
+use Rattle.bench_io.specs.declared.printing.PrintErr.{PrintErr}
+use Rattle.bench_io.specs.declared.printing.PrintErr.TheVariants.{Sink, NoMemory as NoMemoryLeft}
+use Rattle.ectool_lines.proofs.AnswerLemmas.{Ready, tool-proper}
 use Rattle.script_lines.specs.declared.line.BusLine.{BusLine}
 use Rattle.ecbench.specs.declared.run.Exit.{Exit}
 use Rattle.ecbench.specs.declared.run.Exit.TheVariants.{Done, BadWords, BadFlash, BadLine, SourceFault, SinkFault, NoMemory, ScriptTooLong}
-use Rattle.ecbench.specs.Lines.{Happens, Makes, deed_of, DoesDeed, WasCarried, HasHappened, HasMade}
-use Rattle.ecbench.specs.Endings.{seen}
-use Rattle.ecbench.specs.Serving.{MarksLine, CarriesLine, HappensLine, HappensMarked, MakesMarked, DoesLine, Carried, Happened, Made, ServesLine, ServesEvent, ServesCalls}
+use Rattle.ecbench.specs.Lines.{Deed, Asks, Happens, Makes, Arms, Cuts, Traces, deed_of, MarksLine, FollowsEach, CarriesLine, ArmsLine, DoesLine, Carried, Happened, Made, HasArmed, HasCut, Traced, armed_text}
+use Rattle.ecbench.specs.Tracing.{trace_text}
+use Rattle.ecbench.specs.Cutting.{CutsBy, arms_cut, is_cut_deed}
+use Rattle.ecbench.specs.Playing.{AreOwn, IsCalled, PlaysOn}
+use Rattle.ecbench.proofs.PlayLines.{on-then, on-none, on-mark, on-arm, on-cut, on-event, on-host}
+use Rattle.ecbench.proofs.CutCounts.{told-then, told-as, host-told, happens-told, still-told, armed-told}
+use Rattle.ecbench.specs.Serving.{exit_of, ServesLine, ServesEvent, ServesCalls, ServesArm, ServesCut, ServesTrace}
+use Rattle.ecbench.proofs.FollowLemmas.{each-followed, run-ready}
 
 -- the same from another room
-extends-spare : (spare : ℕ) (added : List Entry) (old new : WireView) → Extends added (with_spare spare old) new → Extends added old new
+pub extends-spare : (spare : ℕ) (added : List Entry) (old new : WireView) → Extends added (with_spare spare old) new → Extends added old new
 extends-spare spare added old new e =
-    record { entries = e.entries; on = e.on; bus = e.bus; armed = e.armed; powerless = e.powerless; faults = e.faults; cuts = e.cuts; run = e.run; played = e.played }
+    record { entries = e.entries; on = e.on; bus = e.bus; powerless = e.powerless; faults = e.faults; cuts = e.cuts; run = e.run; played = e.played }
 
 -- a mark
+mark-played : (number : ℕ) (old new : WireView) (o : Option Table) → IsMarked number old new → PlaysBy (Mark number ∷ []) old new o o
+mark-played number old new None marked = tt
+mark-played number old new (Some table) marked =
+    record { calls = Marks number ∷ []; played = (Mark number ∷ [], [], bench_of new table, refl, (refl, ap (λ (view : WireView). bench_of view table) marked), (refl, refl)) }
+
+runs-mark : (number : ℕ) (o : Option Table) → RunsAlong (Mark number ∷ []) o o
+runs-mark number None = tt
+runs-mark number (Some table) = (table, refl, refl)
+
+marked-extends : (number : ℕ) (old new : WireView) → IsMarked number old new → Extends (Mark number ∷ []) old new
+marked-extends number old new marked =
+    let table_is : new.table ≡ old.table = ap (λ (view : WireView). view.table) marked in
+    record {
+      entries = ap (λ (view : WireView). view.entries) marked;
+      on = ap (λ (view : WireView). view.on) marked;
+      bus = ap (λ (view : WireView). view.bus) marked;
+      powerless = (tt, tt);
+      faults = subst (λ (now : ℕ). RoseBy 0 old.faults now) (sym (ap (λ (view : WireView). view.faults) marked)) (record { later = omega arith; risen = omega arith });
+      cuts = subst (λ (now : ℕ). RoseBy 0 old.cuts now) (sym (ap (λ (view : WireView). view.cuts) marked)) (record { later = omega arith; risen = omega arith });
+      run = subst (λ (table : Option Table). RunsAlong (Mark number ∷ []) old.table table) (sym table_is) (runs-mark number old.table);
+      played = subst (λ (table : Option Table). PlaysBy (Mark number ∷ []) old new old.table table) (sym table_is) (mark-played number old new old.table marked);
+    }
+
 pub marks-extends : (number : ℕ) (old new : WireView) → MarksLine number old new → Extends (Mark number ∷ []) old new
-marks-extends number old new marks = extends-spare marks.spare (Mark number ∷ []) old new marks.adds.extends
+marks-extends number old new marks = extends-spare marks.spare (Mark number ∷ []) old new (marked-extends number (with_spare marks.spare old) new marks.marked)
 
 -- nothing
 pub extends-none : (view : WireView) → Extends [] view view
 extends-none view = extends-nil view.spare view
 
--- a line that was done: its entries, and what they are
-pub record LineAdds (kind : BusKind) (number : ℕ) (line text : List ℕ) (old new : WireView) : Type 0 where
+-- an event that was armed, or refused
+arm-played : (call : ℕ) (event : WorldEvent) (result : Result (Unit {0}) ArmsFull) (old new : WireView) (o : Option Table) → IsArmed call event result old new → PlaysBy [] old new o o
+arm-played call event result old new None arms = tt
+arm-played call event result old new (Some table) arms =
+    record {
+      calls = ArmEvent call event (has_place old.armed) ∷ [];
+      played = ([], [], bench_of new table, refl, (refl, refl, ap (λ (view : WireView). bench_of view table) arms.armed), (refl, refl));
+    }
+
+arm-extends : (call : ℕ) (event : WorldEvent) (result : Result (Unit {0}) ArmsFull) (old new : WireView) → IsArmed call event result old new → Extends [] old new
+arm-extends call event result old new arms =
+    let table_is : new.table ≡ old.table = ap (λ (view : WireView). view.table) arms.armed in
+    record {
+      entries = ap (λ (view : WireView). view.entries) arms.armed ∙ sym (append-nil old.entries);
+      on = ap (λ (view : WireView). view.on) arms.armed;
+      bus = ap (λ (view : WireView). view.bus) arms.armed;
+      powerless = tt;
+      faults = subst (λ (now : ℕ). RoseBy 0 old.faults now) (sym (ap (λ (view : WireView). view.faults) arms.armed)) (record { later = omega arith; risen = omega arith });
+      cuts = subst (λ (now : ℕ). RoseBy 0 old.cuts now) (sym (ap (λ (view : WireView). view.cuts) arms.armed)) (record { later = omega arith; risen = omega arith });
+      run = subst (λ (table : Option Table). RunsAlong [] old.table table) (sym table_is) (runs-nil old.table);
+      played = subst (λ (table : Option Table). PlaysBy [] old new old.table table) (sym table_is) (arm-played call event result old new old.table arms);
+    }
+
+-- a cut that was armed
+cut-played : (operation : ℕ) (torn : List ℕ) (old new : WireView) (o : Option Table) → new ≡ record old { cut = cut_at operation torn } → PlaysBy [] old new o o
+cut-played operation torn old new None armed = tt
+cut-played operation torn old new (Some table) armed =
+    record {
+      calls = ArmsCut operation torn ∷ [];
+      played = ([], [], bench_of new table, refl, (refl, ap (λ (view : WireView). bench_of view table) armed), (refl, refl));
+    }
+
+cut-extends : (operation : ℕ) (torn : List ℕ) (old new : WireView) → new ≡ record old { cut = cut_at operation torn } → Extends [] old new
+cut-extends operation torn old new armed =
+    let table_is : new.table ≡ old.table = ap (λ (view : WireView). view.table) armed in
+    record {
+      entries = ap (λ (view : WireView). view.entries) armed ∙ sym (append-nil old.entries);
+      on = ap (λ (view : WireView). view.on) armed;
+      bus = ap (λ (view : WireView). view.bus) armed;
+      powerless = tt;
+      faults = subst (λ (now : ℕ). RoseBy 0 old.faults now) (sym (ap (λ (view : WireView). view.faults) armed)) (record { later = omega arith; risen = omega arith });
+      cuts = subst (λ (now : ℕ). RoseBy 0 old.cuts now) (sym (ap (λ (view : WireView). view.cuts) armed)) (record { later = omega arith; risen = omega arith });
+      run = subst (λ (table : Option Table). RunsAlong [] old.table table) (sym table_is) (runs-nil old.table);
+      played = subst (λ (table : Option Table). PlaysBy [] old new old.table table) (sym table_is) (cut-played operation torn old new old.table armed);
+    }
+
+-- how many cuts a line arms
+pub arms-none : (line : List ℕ) (deed : Deed) → deed_of line ≡ Ok deed → is_cut_deed (Ok deed) ≡ false → count_by arms_cut (line ∷ []) ≡ 0
+arms-none line deed wants none = ap (λ (b : Bool). 0 + cond b 1 0) (ap is_cut_deed wants ∙ none)
+
+arms-one : (line : List ℕ) (operation : ℕ) (torn : List ℕ) → deed_of line ≡ Ok (Cuts operation torn) → count_by arms_cut (line ∷ []) ≡ 1
+arms-one line operation torn wants = ap (λ (b : Bool). 0 + cond b 1 0) (ap is_cut_deed wants)
+
+-- what a line that was done added, how often power was lost in it, and its calls
+pub record LineAdds (number : ℕ) (line : List ℕ) (old new : WireView) : Type 0 where
   pub added : List Entry
+  pub some : 1 ≤ length added
   pub extends : Extends added old new
-  pub does : DoesDeed (seen kind) number old.on line added text new.on
+  pub cuts : IfSome old.table (λ table. CutsBy (count_by arms_cut (line ∷ [])) (count_by is_cut_entry added) old.cut old.own_cuts new.cut new.own_cuts)
+  pub calls : List BenchCall
+  pub called : IsCalled number line calls
+  pub played : PlaysOn calls added old new
 
-carried-adds : {kind : BusKind} (number : ℕ) (line text : List ℕ) (old new : WireView) → old.bus ≡ kind → old.armed ≡ [] → CarriesLine number line text old new → LineAdds kind number line text old new
-carried-adds {kind} number line text old new bus_is disarmed carried =
-    let marked = carried.marked in
-    let mark = marks-extends number old marked carried.marks in
-    let tool = carried.carries.carried in
-    let bus : marked.bus ≡ kind = mark.bus ∙ bus_is in
-    let asks : AsksEach (Hears kind) marked.on (commands_of (packet_limit kind) carried.tool) tool.added tool.end new.on =
-    subst (λ (bus : BusKind). AsksEach (Hears bus) marked.on (commands_of (packet_limit bus) carried.tool) tool.added tool.end new.on) bus tool.asks in
-    let quiet = tool.grows.quiet (mark.armed disarmed) in
+-- a mark changes neither the armed cut nor the counts
+mark-told : (number : ℕ) (old new : WireView) (o : Option Table) → MarksLine number old new → IfSome o (λ table. CutsBy 0 0 old.cut old.own_cuts new.cut new.own_cuts)
+mark-told number old new o marks = still-told old new o (ap (λ (view : WireView). view.cut) marks.marked) (ap (λ (view : WireView). view.own_cuts) marks.marked)
+
+-- what a line added behind its mark
+behind-mark : (number : ℕ) (line : List ℕ) (deed : Deed) (calls : List BenchCall) (own : List Entry) (armings : ℕ) (old marked new : WireView) → deed_of line ≡ Ok deed → AreOwn deed calls → PlaysOn calls own marked new → MarksLine number old marked → count_by arms_cut (line ∷ []) ≡ armings → Extends own marked new →
+    IfSome marked.table (λ table. CutsBy armings (count_by is_cut_entry own) marked.cut marked.own_cuts new.cut new.own_cuts) → LineAdds number line old new
+behind-mark number line deed calls own armings old marked new wants own_are played marks arms extends cuts =
+    let mark = marks-extends number old marked marks in
     record {
-      added = Mark number ∷ tool.added;
-      extends = extends-then (Mark number ∷ []) tool.added old marked new mark
-          (extends-spare carried.carries.spare tool.added marked new (extends-grows tool.added (with_spare carried.carries.spare marked) new tool.grows));
-      does = WasCarried (record {
-        tool = carried.tool;
-        end = tool.end;
-        own = tool.added;
-        wants = carried.wants;
-        within = carried.within;
-        entries_are = refl;
-        alone = quiet.no_event;
-        unchanged = quiet.no_byte;
-        asks_each = subst (λ (on : Bool). AsksEach (Hears kind) on (commands_of (packet_limit kind) carried.tool) tool.added tool.end new.on) mark.on asks;
-        said_is = tool.text_is;
-      });
+      added = Mark number ∷ own;
+      some = omega arith;
+      extends = extends-then (Mark number ∷ []) own old marked new mark extends;
+      cuts = told-as (0 + armings) (count_by arms_cut (line ∷ [])) (0 + count_by is_cut_entry own) (count_by is_cut_entry (Mark number ∷ own)) old new old.table (omega (arith, arms)) (omega arith)
+          (told-then 0 armings 0 (count_by is_cut_entry own) old.cut marked.cut new.cut old.own_cuts marked.own_cuts new.own_cuts (Mark number ∷ []) old.table marked.table mark.run (mark-told number old marked old.table marks) cuts);
+      calls = Marks number ∷ calls;
+      called = inr (record { deed = deed; own = calls; wants = wants; calls_are = refl; own_are = own_are });
+      played = on-then (Marks number ∷ []) calls (Mark number ∷ []) own old marked new (on-mark number marks.spare old marked marks.marked) played;
     }
 
-happened-adds : {kind : BusKind} (number : ℕ) (line text : List ℕ) (old new : WireView) → HappensLine number line old new → text ≡ printed (codes "ok") → LineAdds kind number line text old new
-happened-adds number line text old new happened said =
-    let mark = marks-extends number old happened.marked happened.marks in
-    let step = happened.adds.extends in
+pub line-adds : (number : ℕ) (last : List Entry) (line text : List ℕ) (old new : WireView) → DoesLine number last line text old new → LineAdds number line old new
+line-adds number last line text old new (Carried carries) =
+    let marked = carries.marked in
+    let room = with_spare carries.carries.spare marked in
+    let tool = carries.carries.carried in
+    let host = on-host tool.added room new marked.table new.table tool.grows.played in
+    behind-mark number line (Asks carries.tool) host.calls tool.added 0 old marked new carries.wants host.hosts host.played carries.marks (arms-none line (Asks carries.tool) carries.wants refl)
+    (extends-spare carries.carries.spare tool.added marked new (extends-grows tool.added room new tool.grows)) (host-told tool.added room new marked.table new.table tool.grows.played)
+line-adds number last line text old new (Happened happened wants happens said) =
+    let marked = happens.marked in
+    let now = happens.happens in
+    let step = Step now.event 0 0 0 now.hurt ∷ [] in
+    behind-mark number line (Happens happened) (HappensNow happened ∷ []) step 0 old marked new wants refl (on-event happened step marked new now.played) happens.marks (arms-none line (Happens happened) wants refl) now.adds.extends (happens-told happened step marked new marked.table new.table now.played)
+line-adds number last line text old new (Made calls words wants makes said) =
+    let marked = makes.marked in
+    let room = with_spare makes.makes.spare marked in
+    let made = makes.makes.made in
+    let host = on-host made.added room new marked.table new.table made.grows.played in
+    behind-mark number line (Makes calls) host.calls made.added 0 old marked new wants host.hosts host.played makes.marks (arms-none line (Makes calls) wants refl)
+    (extends-spare makes.makes.spare made.added marked new (extends-grows made.added room new made.grows)) (host-told made.added room new marked.table new.table made.grows.played)
+line-adds number last line text old new (HasArmed call event result wants arms said) =
+    let marked = arms.marked in
+    let same = arms.armed.armed in
+    behind-mark number line (Arms call event) (ArmEvent call event (has_place marked.armed) ∷ []) [] 0 old marked new wants (has_place marked.armed, refl) (on-arm call event result marked new arms.armed) arms.marks (arms-none line (Arms call event) wants refl) (arm-extends call event result marked new arms.armed)
+    (still-told marked new marked.table (ap (λ (view : WireView). view.cut) same) (ap (λ (view : WireView). view.own_cuts) same))
+line-adds number last line text old new (HasCut operation torn wants cuts said) =
+    let marked = cuts.marked in
+    behind-mark number line (Cuts operation torn) (ArmsCut operation torn ∷ []) [] 1 old marked new wants refl (on-cut operation torn marked new cuts.armed) cuts.marks (arms-one line operation torn wants) (cut-extends operation torn marked new cuts.armed)
+    (armed-told operation torn marked new marked.table (ap (λ (view : WireView). view.cut) cuts.armed) (ap (λ (view : WireView). view.own_cuts) cuts.armed))
+line-adds number last line text old new (Traced wants marks said) =
+    behind-mark number line Traces [] [] 0 old new new wants refl (on-none new) marks (arms-none line Traces wants refl) (extends-none new) (still-told new new new.table refl refl)
+
+-- where the tables are told, commands that the host heard followed
+follows-told : (view new : WireView) (tool : Tool) (added : List Entry) (end : LineEnd) (before after : Option Table) → IsAgreed (record view { table = before }) → IsInRange tool →
+    AsksEach (Hears view.bus) view.on (commands_of (packet_limit view.bus) tool) added end new.on → RunsAlong added before after → FollowsEach (commands_of (packet_limit view.bus) tool) added end before after
+follows-told view new tool added end None None agreed within asks runs = tt
+follows-told view new tool added end None (Some b) agreed within asks runs = runs
+follows-told view new tool added end (Some a) None agreed within asks runs = runs
+follows-told view new tool added end (Some a) (Some b) agreed within asks runs =
+    let ready : Ready view.bus view.on a = record { valid = agreed.valid; kind = agreed.kind_is; on_is = agreed.on_is } in
+    (each-followed view.on a b (commands_of (packet_limit view.bus) tool) added end new.on ready (tool-proper view.bus tool within) asks runs).asks
+
+-- a line whose commands were sent, behind its mark
+pub line-carried : (number : ℕ) (line text : List ℕ) (tool : Tool) (old marked new : WireView) → deed_of line ≡ Ok (Asks tool) → IsInRange tool → IsAgreed marked → MarksLine number old marked → Carries tool text marked new → CarriesLine number line text old new
+line-carried number line text tool old marked new wants within agreed marks carries =
+    let carried = carries.carried in
     record {
-      added = Mark number ∷ Step happened.event 0 0 0 happened.hurt ∷ [];
-      extends = extends-then (Mark number ∷ []) (Step happened.event 0 0 0 happened.hurt ∷ []) old happened.marked new mark step;
-      does = HasHappened (record {
-        event = happened.event;
-        hurt = happened.hurt;
-        wants = happened.wants;
-        entries_are = refl;
-        goes = (step.on ∙ ap (λ (on : Bool). on_after_entry (Step happened.event 0 0 0 happened.hurt) on) mark.on, λ cut. sym mark.on ∙ happened.alive cut);
-        said_is = said;
-      });
+      tool = tool;
+      wants = wants;
+      within = within;
+      marked = marked;
+      marks = marks;
+      carries = carries;
+      follows = follows-told marked new tool carried.added carried.end marked.table new.table agreed within carried.asks carried.grows.run;
     }
 
-made-adds : {kind : BusKind} (number : ℕ) (line text words : List ℕ) (calls : BusLine) (old new : WireView) → old.armed ≡ [] → deed_of line ≡ Ok (Makes calls) → MakesMarked number calls words old new → text ≡ printed words → LineAdds kind number line text old new
-made-adds number line text words calls old new disarmed wants behind said =
-    let marked = behind.marked in
-    let mark = marks-extends number old marked behind.marks in
-    let makes = behind.makes in
-    let made = makes.made in
-    let quiet = made.grows.quiet (mark.armed disarmed) in
-    record {
-      added = Mark number ∷ made.added;
-      extends = extends-then (Mark number ∷ []) made.added old marked new mark
-          (extends-spare makes.spare made.added marked new (extends-grows made.added (with_spare makes.spare marked) new made.grows));
-      does = HasMade (record {
-        line = calls;
-        calls = makes.calls;
-        words = words;
-        own = made.added;
-        wants = wants;
-        entries_are = refl;
-        alone = quiet.no_event;
-        unchanged = quiet.no_byte;
-        is_line = makes.is_line;
-        goes = record { calls_are = made.calls_are; steps = made.grows.steps; on_is = made.grows.on ∙ ap (λ (on : Bool). on_after made.added on) mark.on };
-        said_is = said;
-      });
-    }
+-- what was done with a line that sends commands
+pub tool-done : (number : ℕ) (last : List Entry) (line text : List ℕ) (tool : Tool) (old marked new : WireView) (before after : Option (List ℕ)) → deed_of line ≡ Ok (Asks tool) → IsInRange tool → IsAgreed marked → MarksLine number old marked →
+    Carries tool text marked new → Appends text before after → ServesLine (Ok tt) number last line old new before after
+tool-done number last line text tool old marked new before after wants within agreed marks carries said =
+    inr (record { text = text; does = Carried (line-carried number line text tool old marked new wants within agreed marks carries); printed = said })
 
-pub line-adds : {kind : BusKind} (number : ℕ) (line text : List ℕ) (old new : WireView) → old.bus ≡ kind → old.armed ≡ [] → DoesLine number line text old new → LineAdds kind number line text old new
-line-adds {kind} number line text old new bus_is disarmed (Carried carries) = carried-adds number line text old new bus_is disarmed carries
-line-adds {kind} number line text old new bus_is disarmed (Happened happened said) = happened-adds number line text old new happened said
-line-adds {kind} number line text old new bus_is disarmed (Made calls words wants makes said) = made-adds number line text words calls old new disarmed wants makes said
+pub tool-stopped : (error : PrintErr) (number : ℕ) (last : List Entry) (line : List ℕ) (tool : Tool) (old marked new : WireView) (before after : Option (List ℕ)) → deed_of line ≡ Ok (Asks tool) → IsInRange tool → IsAgreed marked → MarksLine number old marked →
+    RunsTool (Err error) tool marked new before after → ServesLine (Err (exit_of error)) number last line old new before after
+tool-stopped Sink number last line tool old marked new before after wants within agreed marks (text, carries, front) =
+    (text, Carried (line-carried number line text tool old marked new wants within agreed marks carries), front)
+tool-stopped NoMemoryLeft number last line tool old marked new before after wants within agreed marks (still, unsaid) =
+    (inr (subst (λ (view : WireView). MarksLine number old view) (sym still) marks), unsaid)
 
--- an event of the world, for a line that wants it
-pub event-line : (number : ℕ) (line : List ℕ) (happened : WorldEvent) (event : Event) (old new : WireView) → deed_of line ≡ Ok (Happens event) → ((other : Event) → IsEvent happened other → other ≡ event) → HappensMarked number happened old new → HappensLine number line old new
-event-line number line happened event old new wants same marked =
-    let now = marked.happens in
-    record {
-      event = now.event;
-      hurt = now.hurt;
-      wants = wants ∙ ap (λ (e : Event). Ok (Happens e)) (sym (same now.event now.is_event));
-      marked = marked.marked;
-      marks = marked.marks;
-      alive = now.alive;
-      adds = now.adds;
-    }
+-- an error of printing as an exit
+pub as-exit : (result : Result (Unit {0}) Exit) (error : PrintErr) (number : ℕ) (last : List Entry) (line : List ℕ) (old new : WireView) (before after : Option (List ℕ)) → IsErr result × IsErrAnd result (λ exit. exit ≡ exit_of error) → ServesLine (Err (exit_of error)) number last line old new before after →
+    ServesLine result number last line old new before after
+as-exit (Ok done) error number last line old new before after (never, same) serves = cc
+as-exit (Err exit) error number last line old new before after (is, same) serves = subst (λ (e : Exit). ServesLine (Err e) number last line old new before after) (sym same) serves
+
+-- what a controller tells agrees with its table behind entries, too
+agreed-told : (old new : WireView) (added : List Entry) (before after : Option Table) → IsAgreed (record old { table = before }) → Extends added old new → RunsAlong added before after → IsAgreed (record new { table = after })
+agreed-told old new added None None agreed extends runs = tt
+agreed-told old new added None (Some b) agreed extends runs = absurd runs
+agreed-told old new added (Some a) None agreed extends runs = tt
+agreed-told old new added (Some a) (Some b) agreed extends runs =
+    let before : Ready old.bus old.on a = record { valid = agreed.valid; kind = agreed.kind_is; on_is = agreed.on_is } in
+    let ready = run-ready old.on a added b before runs in
+    record { valid = ready.valid; kind_is = ready.kind ∙ sym extends.bus; on_is = ready.on_is ∙ sym extends.on }
+
+pub agreed-behind : (old new : WireView) (added : List Entry) → IsAgreed old → Extends added old new → IsAgreed new
+agreed-behind old new added agreed extends = agreed-told old new added old.table new.table agreed extends extends.run
 
 -- what was done with an event, for a line that wants it
-pub event-serves : (result : Result (Unit {0}) Exit) (number : ℕ) (line : List ℕ) (happened : WorldEvent) (event : Event) (old new : WireView) (before after : Option (List ℕ)) → deed_of line ≡ Ok (Happens event) → ((other : Event) → IsEvent happened other → other ≡ event) →
-    ServesEvent result number happened old new before after → ServesLine result number line old new before after
-event-serves (Ok done) number line happened event old new before after wants same (marked, said) = inr (printed (codes "ok"), Happened (event-line number line happened event old new wants same marked) refl, said)
-event-serves (Err SinkFault) number line happened event old new before after wants same (marked, said) = (printed (codes "ok"), Happened (event-line number line happened event old new wants same marked) refl, said)
-event-serves (Err NoMemory) number line happened event old new before after wants same (still, unsaid) = (inl still, unsaid)
-event-serves (Err Done) number line happened event old new before after wants same never = absurd never
-event-serves (Err BadWords) number line happened event old new before after wants same never = absurd never
-event-serves (Err BadFlash) number line happened event old new before after wants same never = absurd never
-event-serves (Err (BadLine at reason)) number line happened event old new before after wants same never = absurd never
-event-serves (Err SourceFault) number line happened event old new before after wants same never = absurd never
-event-serves (Err ScriptTooLong) number line happened event old new before after wants same never = absurd never
+pub event-serves : (result : Result (Unit {0}) Exit) (number : ℕ) (last : List Entry) (line : List ℕ) (happened : WorldEvent) (old new : WireView) (before after : Option (List ℕ)) → deed_of line ≡ Ok (Happens happened) → ServesEvent result number happened old new before after → ServesLine result number last line old new before after
+event-serves (Ok done) number last line happened old new before after wants (happens, said) = inr (record { text = printed (codes "ok"); does = Happened happened wants happens refl; printed = said })
+event-serves (Err SinkFault) number last line happened old new before after wants (happens, said) = (printed (codes "ok"), Happened happened wants happens refl, said)
+event-serves (Err NoMemory) number last line happened old new before after wants (still, unsaid) = (inl still, unsaid)
+event-serves (Err Done) number last line happened old new before after wants never = absurd never
+event-serves (Err BadWords) number last line happened old new before after wants never = absurd never
+event-serves (Err BadFlash) number last line happened old new before after wants never = absurd never
+event-serves (Err (BadLine at reason)) number last line happened old new before after wants never = absurd never
+event-serves (Err SourceFault) number last line happened old new before after wants never = absurd never
+event-serves (Err ScriptTooLong) number last line happened old new before after wants never = absurd never
 
 -- what was done with calls of the host, for a line that wants them
-pub calls-serves : (result : Result (Unit {0}) Exit) (number : ℕ) (line : List ℕ) (calls : BusLine) (old new : WireView) (before after : Option (List ℕ)) → deed_of line ≡ Ok (Makes calls) → ServesCalls result number calls old new before after → ServesLine result number line old new before after
-calls-serves (Ok done) number line calls old new before after wants (words, marked, said) = inr (printed words, Made calls words wants marked refl, said)
-calls-serves (Err SinkFault) number line calls old new before after wants (words, marked, said) = (printed words, Made calls words wants marked refl, said)
-calls-serves (Err NoMemory) number line calls old new before after wants (marked, unsaid) = (marked, unsaid)
-calls-serves (Err Done) number line calls old new before after wants never = absurd never
-calls-serves (Err BadWords) number line calls old new before after wants never = absurd never
-calls-serves (Err BadFlash) number line calls old new before after wants never = absurd never
-calls-serves (Err (BadLine at reason)) number line calls old new before after wants never = absurd never
-calls-serves (Err SourceFault) number line calls old new before after wants never = absurd never
-calls-serves (Err ScriptTooLong) number line calls old new before after wants never = absurd never
+pub calls-serves : (result : Result (Unit {0}) Exit) (number : ℕ) (last : List Entry) (line : List ℕ) (calls : BusLine) (old new : WireView) (before after : Option (List ℕ)) → deed_of line ≡ Ok (Makes calls) → ServesCalls result number calls old new before after → ServesLine result number last line old new before after
+calls-serves (Ok done) number last line calls old new before after wants (words, makes, said) = inr (record { text = printed words; does = Made calls words wants makes refl; printed = said })
+calls-serves (Err SinkFault) number last line calls old new before after wants (words, makes, said) = (printed words, Made calls words wants makes refl, said)
+calls-serves (Err NoMemory) number last line calls old new before after wants (marked, unsaid) = (marked, unsaid)
+calls-serves (Err Done) number last line calls old new before after wants never = absurd never
+calls-serves (Err BadWords) number last line calls old new before after wants never = absurd never
+calls-serves (Err BadFlash) number last line calls old new before after wants never = absurd never
+calls-serves (Err (BadLine at reason)) number last line calls old new before after wants never = absurd never
+calls-serves (Err SourceFault) number last line calls old new before after wants never = absurd never
+calls-serves (Err ScriptTooLong) number last line calls old new before after wants never = absurd never
+
+-- what was done with an event that is to be armed, for a line that wants it
+pub arm-serves : (result : Result (Unit {0}) Exit) (number : ℕ) (last : List Entry) (line : List ℕ) (call : ℕ) (event : WorldEvent) (old new : WireView) (before after : Option (List ℕ)) → deed_of line ≡ Ok (Arms call event) → ServesArm result number call event old new before after → ServesLine result number last line old new before after
+arm-serves (Ok done) number last line call event old new before after wants (armed, arms, said) = inr (record { text = printed (armed_text armed); does = HasArmed call event armed wants arms refl; printed = said })
+arm-serves (Err SinkFault) number last line call event old new before after wants (armed, arms, said) = (printed (armed_text armed), HasArmed call event armed wants arms refl, said)
+arm-serves (Err NoMemory) number last line call event old new before after wants (still, unsaid) = (inl still, unsaid)
+arm-serves (Err Done) number last line call event old new before after wants never = absurd never
+arm-serves (Err BadWords) number last line call event old new before after wants never = absurd never
+arm-serves (Err BadFlash) number last line call event old new before after wants never = absurd never
+arm-serves (Err (BadLine at reason)) number last line call event old new before after wants never = absurd never
+arm-serves (Err SourceFault) number last line call event old new before after wants never = absurd never
+arm-serves (Err ScriptTooLong) number last line call event old new before after wants never = absurd never
+
+-- an event was to be armed, and printing failed
+pub arm-stopped : (result : Result (Unit {0}) Exit) (error : PrintErr) (number call : ℕ) (event : WorldEvent) (armed : Result (Unit {0}) ArmsFull) (old new : WireView) (before after : Option (List ℕ)) → IsErr result × IsErrAnd result (λ exit. exit ≡ exit_of error) →
+    ArmsLine number call event armed old new → Prints (Err error) (printed (armed_text armed)) before after → ServesArm result number call event old new before after
+arm-stopped (Ok done) error number call event armed old new before after (never, same) arms prints = cc
+arm-stopped (Err exit) Sink number call event armed old new before after (is, same) arms prints = subst (λ (e : Exit). ServesArm (Err e) number call event old new before after) (sym same) (armed, arms, prints)
+arm-stopped (Err exit) NoMemoryLeft number call event armed old new before after (is, same) arms prints = absurd prints
+
+-- what was done with a cut that is to be armed, for a line that wants it
+pub cut-serves : (result : Result (Unit {0}) Exit) (number : ℕ) (last : List Entry) (line : List ℕ) (operation : ℕ) (torn : List ℕ) (old new : WireView) (before after : Option (List ℕ)) → deed_of line ≡ Ok (Cuts operation torn) → ServesCut result number operation torn old new before after → ServesLine result number last line old new before after
+cut-serves (Ok done) number last line operation torn old new before after wants (cuts, said) = inr (record { text = printed (codes "ok"); does = HasCut operation torn wants cuts refl; printed = said })
+cut-serves (Err SinkFault) number last line operation torn old new before after wants (cuts, said) = (printed (codes "ok"), HasCut operation torn wants cuts refl, said)
+cut-serves (Err NoMemory) number last line operation torn old new before after wants (still, unsaid) = (inl still, unsaid)
+cut-serves (Err Done) number last line operation torn old new before after wants never = absurd never
+cut-serves (Err BadWords) number last line operation torn old new before after wants never = absurd never
+cut-serves (Err BadFlash) number last line operation torn old new before after wants never = absurd never
+cut-serves (Err (BadLine at reason)) number last line operation torn old new before after wants never = absurd never
+cut-serves (Err SourceFault) number last line operation torn old new before after wants never = absurd never
+cut-serves (Err ScriptTooLong) number last line operation torn old new before after wants never = absurd never
+
+-- what was done with entries that are to be counted, for a line that wants it
+pub trace-serves : (result : Result (Unit {0}) Exit) (number : ℕ) (last : List Entry) (line : List ℕ) (old new : WireView) (before after : Option (List ℕ)) → deed_of line ≡ Ok Traces → ServesTrace result number last old new before after → ServesLine result number last line old new before after
+trace-serves (Ok done) number last line old new before after wants (marks, said) = inr (record { text = printed (trace_text last); does = Traced wants marks refl; printed = said })
+trace-serves (Err SinkFault) number last line old new before after wants (marks, said) = (printed (trace_text last), Traced wants marks refl, said)
+trace-serves (Err NoMemory) number last line old new before after wants (still, unsaid) = (inl still, unsaid)
+trace-serves (Err Done) number last line old new before after wants never = absurd never
+trace-serves (Err BadWords) number last line old new before after wants never = absurd never
+trace-serves (Err BadFlash) number last line old new before after wants never = absurd never
+trace-serves (Err (BadLine at reason)) number last line old new before after wants never = absurd never
+trace-serves (Err SourceFault) number last line old new before after wants never = absurd never
+trace-serves (Err ScriptTooLong) number last line old new before after wants never = absurd never

@@ -1,31 +1,30 @@
 -- Lines done one after the other.
 use Rattle.std.proofs.Common.{◌≡◌, refl, sym, ap, ◌∙◌, subst, ℕ, ◌+◌, List, [], ◌∷◌, ◌++◌, length, append_assoc, append-nil, arith}
 use Rattle.ec_model.specs.declared.event.Entry.{Entry}
-use Rattle.ecbench.specs.Lines.{Life, IsDone, AreDone}
+use Rattle.ec_wire.specs.Calls.{WireView}
+use Rattle.ecbench.specs.Lines.{IsDone, AreDone}
 
 -- one more line behind others
-pub done-more : {State : Type 0} (life : Life State) (number : ℕ) (old : State) (lines : List (List ℕ)) (entries : List Entry) (text : List ℕ) (middle : State) (at : ℕ) (line : List ℕ) (last : List Entry) (said : List ℕ) (new : State) →
-    at ≡ number + length lines → AreDone life number old lines entries text middle → IsDone life at middle line last said new → AreDone life number old (lines ++ line ∷ []) (entries ++ last) (text ++ said) new
-done-more {State} life number old [] entries text middle at line last said new same before here =
-    let number_is : at ≡ number = omega (arith, same) in (
-      last,
-      [],
+pub done-more : (number : ℕ) (first : List Entry) (lines : List (List ℕ)) (text : List ℕ) (old middle : WireView) (last : List Entry) (at : ℕ) (line said : List ℕ) (new : WireView) (own : List Entry) →
+    at ≡ number + length lines → AreDone number first lines text old middle last → IsDone at last line said middle new own → AreDone number first (lines ++ line ∷ []) (text ++ said) old new own
+done-more number first [] text old middle last at line said new own same before here =
+    let number_is : at ≡ number = omega (arith, same) in
+    let from : IsDone at first line said old new own =
+    subst (λ (entries : List Entry). IsDone at entries line said old new own) before.2 (subst (λ (view : WireView). IsDone at last line said view new own) before.1 here) in (
       said,
       [],
       new,
-      ap (λ (front : List Entry). front ++ last) before.0 ∙ sym (append-nil last),
-      ap (λ (front : List ℕ). front ++ said) before.1 ∙ sym (append-nil said),
-      subst (λ (n : ℕ). IsDone life n old line last said new) number_is (subst (λ (state : State). IsDone life at state line last said new) before.2 here),
+      own,
+      ap (λ (front : List ℕ). front ++ said) before.0 ∙ sym (append-nil said),
+      subst (λ (n : ℕ). IsDone n first line said old new own) number_is from,
       (refl, refl, refl),
     )
-done-more life number old (first ∷ lines) entries text middle at line last said new same (own, rest, words, more, between, entries_are, text_is, done, others) here = (
-  own,
-  rest ++ last,
-  words,
+done-more number first (text ∷ lines) words old middle last at line said new own same (own_words, more, between, here_last, text_is, done, others) here = (
+  own_words,
   more ++ said,
   between,
-  ap (λ (front : List Entry). front ++ last) entries_are ∙ append_assoc own rest last,
-  ap (λ (front : List ℕ). front ++ said) text_is ∙ append_assoc words more said,
+  here_last,
+  ap (λ (front : List ℕ). front ++ said) text_is ∙ append_assoc own_words more said,
   done,
-  done-more life (number + 1) between lines rest more middle at line last said new (omega (arith, same)) others here,
+  done-more (number + 1) here_last lines more between middle last at line said new own (omega (arith, same)) others here,
 )

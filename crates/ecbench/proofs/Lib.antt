@@ -1,11 +1,11 @@
 pub mod Doing
+pub mod CutCounts
+pub mod PlayLines
 pub mod Adding
 pub mod EventLemmas
-pub mod MadeLemmas
-pub mod Undisturbed
 mod FollowLemmas
-mod Followed
 pub mod ServedLemmas
 pub mod ServedLines
 pub mod Powering
 pub mod Whole
+pub mod Tracings

@@ -1,6 +1,7 @@
 -- A script, line by line: what was done so far, and what each exit says.
 use Rattle.std.proofs.Common.{◌≡◌, refl, sym, ap, ◌∙◌, subst, ℕ, ◌+◌, ◌≤◌, ◌<◌, Bool, true, false, nat_lt, if◌then◌else◌, List, [], ◌++◌, length, length-append, map, take, drop, ◌-◌, append_assoc, length-drop, append-nil, inl, inr, Option, Some, None, Result, Ok, Err, arith}
-use Rattle.std.specs.Prelude.{IfSome}
+use Rattle.std.specs.Prelude.{IfSome, count_by}
+use Rattle.ec_model.specs.Upset.{is_cut_entry}
 use Rattle.std.proofs.lemmas.Bool.{le-leb, lt-ltb}
 use Rattle.std.proofs.lemmas.List.{length-map, take-append-drop}
 use Rattle.ec_types.specs.declared.why.Why.{Why}
@@ -25,13 +26,17 @@ use Rattle.ectool_lines.specs.Running.{Appends}
 use Rattle.ecbench.specs.declared.run.Exit.{Exit}
 use Rattle.ecbench.specs.declared.run.Exit.TheVariants.{Done, BadLine, SourceFault, ScriptTooLong}
 use Rattle.ecbench.specs.Lines.{AreDone, IsFaulty, deed_by}
-use Rattle.ecbench.specs.Endings.{seen}
 use Rattle.bench_wire.specs.Adding.{Extends}
 use Rattle.script_lines.specs.declared.line.Line.{Line as ScriptLine}
 use Rattle.script_lines.specs.declared.line.Line.TheVariants.{Nothing}
 use Rattle.script_lines.specs.Lines.{line_of, line_by}
 use Rattle.ecbench.specs.Scripts.{IsScript, ReadsNoFurther, Plays, IsLine}
 use Rattle.ecbench.specs.Serving.{Serves, exit_at}
+use Rattle.ec_model.specs.Bench.{BenchCall}
+use Rattle.ecbench.specs.Cutting.{CutsBy, CutsAlong, arms_cut}
+use Rattle.ecbench.specs.Playing.{AreCalled, PlaysOn, PlaysLines}
+use Rattle.ecbench.proofs.PlayLines.{on-none}
+use Rattle.ecbench.proofs.CutCounts.{still-told}
 use Rattle.ecbench.proofs.Adding.{extends-none}
 
 -- what is left of a source; nothing where that is not told
@@ -67,8 +72,8 @@ appends-nothing None = tt
 appends-nothing (Some written) = sym (append-nil written)
 
 -- So many lines of a script were done: their parts and their bytes, which were read; the entries that they added, and what
--- they printed.
-pub record Served (number : ℕ) (opened now : WireView) (reader : ReaderView) (left rest before after : Option (List ℕ)) : Type 0 where
+-- they printed. The last line that did something has the entries from `since` on.
+pub record Served (number since : ℕ) (opened now : WireView) (reader : ReaderView) (left rest before after : Option (List ℕ)) : Type 0 where
   pub raws : List (List ℕ)
   pub used : List ℕ
   pub splits : Splits raws used
@@ -79,11 +84,18 @@ pub record Served (number : ℕ) (opened now : WireView) (reader : ReaderView) (
   pub own : List Entry
   pub extends : Extends own opened now
   pub text : List ℕ
-  pub done : AreDone (seen opened.bus) 1 opened.on (map without_return raws) own text now.on
+  pub last : List Entry
+  pub since_is : drop since now.entries ≡ last
+  pub within : since ≤ length now.entries
+  pub cuts : IfSome opened.table (λ table. CutsBy (count_by arms_cut (map without_return raws)) (count_by is_cut_entry own) opened.cut opened.own_cuts now.cut now.own_cuts)
+  pub calls : List BenchCall
+  pub called : AreCalled 1 (map without_return raws) calls
+  pub played : PlaysOn calls own opened now
+  pub done : AreDone 1 opened.entries (map without_return raws) text opened now last
   pub printed : Appends text before after
 
 -- nothing was read yet
-pub served-nothing : (opened : WireView) (left before : Option (List ℕ)) (reader : ReaderView) → reader ≡ record { ahead = []; given = 0; line = [] } → Takes [] left left → Served 1 opened opened reader left left before before
+pub served-nothing : (opened : WireView) (left before : Option (List ℕ)) (reader : ReaderView) → reader ≡ record { ahead = []; given = 0; line = [] } → Takes [] left left → Served 1 0 opened opened reader left left before before
 served-nothing opened left before reader fresh none =
     record {
       raws = [];
@@ -96,12 +108,27 @@ served-nothing opened left before reader fresh none =
       own = [];
       extends = extends-none opened;
       text = [];
+      last = opened.entries;
+      since_is = refl;
+      within = omega arith;
+      cuts = still-told opened opened opened.table refl refl;
+      calls = [];
+      called = refl;
+      played = on-none opened;
       done = (refl, refl, refl);
       printed = appends-nothing before;
     }
 
+-- how often power was lost in them
+pub along : {number since : ℕ} {opened now : WireView} {reader : ReaderView} {left rest before after : Option (List ℕ)} → (served : Served number since opened now reader left rest before after) → CutsAlong (count_by arms_cut (map without_return served.raws)) opened now
+along served = record { added = served.own; entries = served.extends.entries; counted = served.cuts }
+
+-- the calls that they are
+pub plays-lines : {number since : ℕ} {opened now : WireView} {reader : ReaderView} {left rest before after : Option (List ℕ)} → (served : Served number since opened now reader left rest before after) → PlaysLines (map without_return served.raws) opened now
+plays-lines served = record { calls = served.calls; called = served.called; added = served.own; entries = served.extends.entries; played = served.played }
+
 -- what was taken once the next line was looked for
-pub taken-more : (number : ℕ) (opened now : WireView) (reader : ReaderView) (left rest more before after : Option (List ℕ)) (came : List ℕ) → (served : Served number opened now reader left rest before after) → Takes came rest more →
+pub taken-more : {since : ℕ} (number : ℕ) (opened now : WireView) (reader : ReaderView) (left rest more before after : Option (List ℕ)) (came : List ℕ) → (served : Served number since opened now reader left rest before after) → Takes came rest more →
     Takes (served.used ++ (reader.ahead ++ came)) left more
 taken-more number opened now reader left rest more before after came served takes =
     subst (λ (taken : List ℕ). Takes taken left more) (append_assoc served.used reader.ahead came) (Takes-then (served.used ++ reader.ahead) came left rest more served.takes takes)
@@ -111,7 +138,7 @@ pub line-number : (number : ℕ) (raws : List (List ℕ)) → number ≡ length 
 line-number number raws same = omega (arith, same, length-map raws without_return)
 
 -- the source failed
-pub serves-failed : (number : ℕ) (opened now : WireView) (reader after_reader : ReaderView) (left rest more before after : Option (List ℕ)) (failed : Failed) → Served number opened now reader left rest before after → Finds (Err failed) reader after_reader rest more →
+pub serves-failed : {since : ℕ} (number : ℕ) (opened now : WireView) (reader after_reader : ReaderView) (left rest more before after : Option (List ℕ)) (failed : Failed) → Served number since opened now reader left rest before after → Finds (Err failed) reader after_reader rest more →
     Serves SourceFault opened now left more before after
 serves-failed number opened now reader after_reader left rest more before after failed served finds =
     let all = reader.ahead ++ finds.came in
@@ -125,9 +152,11 @@ serves-failed number opened now reader after_reader left rest more before after 
         omega (arith, length-append served.used all, served.read, finds.says.read),
         record {
           text = served.text;
-          new = now.on;
-          done = subst (λ (ls : List (List ℕ)). AreDone (seen opened.bus) 1 opened.on ls served.own served.text now.on) (sym lines) served.done;
+          own = served.last;
+          done = subst (λ (ls : List (List ℕ)). AreDone 1 opened.entries ls served.text opened now served.last) (sym lines) served.done;
           printed = served.printed;
+          cuts = subst (λ (ls : List (List ℕ)). CutsAlong (count_by arms_cut ls) opened now) (sym lines) (along served);
+          played = subst (λ (ls : List (List ℕ)). PlaysLines ls opened now) (sym lines) (plays-lines served);
         },
       );
     }
@@ -137,7 +166,7 @@ pub script-fits : (bytes : List ℕ) → length bytes ≤ most_bytes → script_
 script-fits bytes short = ap (λ (test : Bool). if test then lines_of bytes else lines_within (take most_bytes bytes)) (le-leb (length bytes) most_bytes short)
 
 -- the script was read to its end
-pub serves-end : (number : ℕ) (opened now : WireView) (reader after_reader : ReaderView) (left rest more before after : Option (List ℕ)) → Served number opened now reader left rest before after → after_reader.given ≤ most_bytes → Finds (Ok End) reader after_reader rest more →
+pub serves-end : {since : ℕ} (number : ℕ) (opened now : WireView) (reader after_reader : ReaderView) (left rest more before after : Option (List ℕ)) → Served number since opened now reader left rest before after → after_reader.given ≤ most_bytes → Finds (Ok End) reader after_reader rest more →
     Serves Done opened now left more before after
 serves-end number opened now reader after_reader left rest more before after served within finds =
     let all = reader.ahead ++ finds.came in
@@ -157,21 +186,23 @@ serves-end number opened now reader after_reader left rest more before after ser
         record { takes = subst (λ (bytes : List ℕ). Takes bytes left more) whole taken; end = end.left; fits = fits },
         record {
           text = served.text;
-          new = now.on;
-          done = subst (λ (ls : List (List ℕ)). AreDone (seen opened.bus) 1 opened.on ls served.own served.text now.on) (sym lines_are) served.done;
+          own = served.last;
+          done = subst (λ (ls : List (List ℕ)). AreDone 1 opened.entries ls served.text opened now served.last) (sym lines_are) served.done;
           printed = served.printed;
+          cuts = subst (λ (ls : List (List ℕ)). CutsAlong (count_by arms_cut ls) opened now) (sym lines_are) (along served);
+          played = subst (λ (ls : List (List ℕ)). PlaysLines ls opened now) (sym lines_are) (plays-lines served);
         },
       );
     }
 
 -- how many bytes were taken
-all-read : (number : ℕ) (opened now : WireView) (reader after_reader : ReaderView) (left rest before after : Option (List ℕ)) (all : List ℕ) → (served : Served number opened now reader left rest before after) → Keeps reader after_reader all →
+all-read : {since : ℕ} (number : ℕ) (opened now : WireView) (reader after_reader : ReaderView) (left rest before after : Option (List ℕ)) (all : List ℕ) → (served : Served number since opened now reader left rest before after) → Keeps reader after_reader all →
     length (served.used ++ all) ≡ after_reader.given + length after_reader.ahead
 all-read number opened now reader after_reader left rest before after all served keeps =
     omega (arith, length-append served.used all, served.read, ap length keeps.bytes, length-append keeps.read after_reader.ahead, keeps.given)
 
 -- it was read no further than to the end of the line behind those that were done, and at most 4,096 bytes wait
-no-further : (number : ℕ) (opened now : WireView) (reader after_reader : ReaderView) (left rest before after : Option (List ℕ)) (all : List ℕ) → (served : Served number opened now reader left rest before after) → length after_reader.ahead ≤ 4096 → Keeps reader after_reader all →
+no-further : {since : ℕ} (number : ℕ) (opened now : WireView) (reader after_reader : ReaderView) (left rest before after : Option (List ℕ)) (all : List ℕ) → (served : Served number since opened now reader left rest before after) → length after_reader.ahead ≤ 4096 → Keeps reader after_reader all →
     ReadsNoFurther (map without_return served.raws) (served.used ++ all)
 no-further number opened now reader after_reader left rest before after all served few keeps =
     let count = length keeps.read - 1 in
@@ -187,7 +218,7 @@ no-further number opened now reader after_reader left rest before after all serv
     }
 
 -- a script that is too long
-pub serves-full : (number : ℕ) (opened now : WireView) (reader after_reader : ReaderView) (left rest more before after : Option (List ℕ)) → Served number opened now reader left rest before after → IsWithin after_reader.ahead after_reader.given → Finds (Ok Full) reader after_reader rest more →
+pub serves-full : {since : ℕ} (number : ℕ) (opened now : WireView) (reader after_reader : ReaderView) (left rest more before after : Option (List ℕ)) → Served number since opened now reader left rest before after → IsWithin after_reader.ahead after_reader.given → Finds (Ok Full) reader after_reader rest more →
     Serves ScriptTooLong opened now left more before after
 serves-full number opened now reader after_reader left rest more before after served within finds =
     let all = reader.ahead ++ finds.came in
@@ -206,16 +237,18 @@ serves-full number opened now reader after_reader left rest more before after se
         record { taken = served.used ++ all; is_script = is-script (served.used ++ all) left more taken; long = omega (arith, size, served.read, full.read, full.some, within.came, all-read number opened now reader after_reader left rest before after all served finds.keeps) },
         record {
           text = served.text;
-          new = now.on;
-          done = subst (λ (ls : List (List ℕ)). AreDone (seen opened.bus) 1 opened.on ls served.own served.text now.on) (sym lines_are) served.done;
+          own = served.last;
+          done = subst (λ (ls : List (List ℕ)). AreDone 1 opened.entries ls served.text opened now served.last) (sym lines_are) served.done;
           printed = served.printed;
+          cuts = subst (λ (ls : List (List ℕ)). CutsAlong (count_by arms_cut ls) opened now) (sym lines_are) (along served);
+          played = subst (λ (ls : List (List ℕ)). PlaysLines ls opened now) (sym lines_are) (plays-lines served);
         },
       );
     }
 
 -- what was done before a line
-abbrev pub before-line : (number : ℕ) (opened now : WireView) (reader : ReaderView) (left rest before after : Option (List ℕ)) → (served : Served number opened now reader left rest before after) → Plays (seen opened.bus) opened.on (map without_return served.raws) served.own before after
-before-line number opened now reader left rest before after served = record { text = served.text; new = now.on; done = served.done; printed = served.printed }
+abbrev pub before-line : {since : ℕ} (number : ℕ) (opened now : WireView) (reader : ReaderView) (left rest before after : Option (List ℕ)) → (served : Served number since opened now reader left rest before after) → Plays opened.entries (map without_return served.raws) opened now before after
+before-line number opened now reader left rest before after served = record { text = served.text; own = served.last; done = served.done; printed = served.printed; cuts = along served; played = plays-lines served }
 
 -- a test and one that does not hold
 and-none : (a : Bool) → (a && false) ≡ false
@@ -244,7 +277,7 @@ told-long : (old : ReaderView) (all : List ℕ) (rest : Option (List ℕ)) → I
 told-long old all rest long = record { raw = long.raw; more = long.more; feedless = long.feedless; bytes = long.bytes; over = told-over old.given long.raw long.more rest long.over }
 
 -- the next line is too long
-pub serves-long : (number : ℕ) (opened now : WireView) (reader after_reader : ReaderView) (left rest more before after : Option (List ℕ)) → Served number opened now reader left rest before after → IsWithin after_reader.ahead after_reader.given → Finds (Ok TooLong) reader after_reader rest more →
+pub serves-long : {since : ℕ} (number : ℕ) (opened now : WireView) (reader after_reader : ReaderView) (left rest more before after : Option (List ℕ)) → Served number since opened now reader left rest before after → IsWithin after_reader.ahead after_reader.given → Finds (Ok TooLong) reader after_reader rest more →
     Serves (BadLine number why.TooLong) opened now left more before after
 serves-long number opened now reader after_reader left rest more before after served within finds =
     let all = reader.ahead ++ finds.came in
@@ -277,7 +310,7 @@ pub record AtLine (raws : List (List ℕ)) (line : List ℕ) (left rest : Option
   pub is_line : IsLine script taken (map without_return raws) line
 
 -- a line that a line feed ends
-pub at-line : (number : ℕ) (opened now : WireView) (reader after_reader : ReaderView) (left rest more before after : Option (List ℕ)) → (served : Served number opened now reader left rest before after) → IsWithin after_reader.ahead after_reader.given → Finds (Ok Line) reader after_reader rest more →
+pub at-line : {since : ℕ} (number : ℕ) (opened now : WireView) (reader after_reader : ReaderView) (left rest more before after : Option (List ℕ)) → (served : Served number since opened now reader left rest before after) → IsWithin after_reader.ahead after_reader.given → Finds (Ok Line) reader after_reader rest more →
     AtLine served.raws after_reader.line left more
 at-line number opened now reader after_reader left rest more before after served within finds =
     let all = reader.ahead ++ finds.came in
@@ -296,7 +329,7 @@ told-last old new all rest last =
     record { feedless = last.feedless; bytes = last.bytes; read = last.read; some = last.some; fits = last.fits; ahead = last.ahead; left = none-left rest last.left }
 
 -- a line that the end of the input ends
-pub at-last : (number : ℕ) (opened now : WireView) (reader after_reader : ReaderView) (left rest more before after : Option (List ℕ)) → (served : Served number opened now reader left rest before after) → IsWithin after_reader.ahead after_reader.given → Finds (Ok Last) reader after_reader rest more →
+pub at-last : {since : ℕ} (number : ℕ) (opened now : WireView) (reader after_reader : ReaderView) (left rest more before after : Option (List ℕ)) → (served : Served number since opened now reader left rest before after) → IsWithin after_reader.ahead after_reader.given → Finds (Ok Last) reader after_reader rest more →
     AtLine served.raws after_reader.line left more
 at-last number opened now reader after_reader left rest more before after served within finds =
     let all = reader.ahead ++ finds.came in
@@ -310,7 +343,7 @@ at-last number opened now reader after_reader left rest more before after served
     }
 
 -- an exit before a line
-pub serves-exit : (next : Next) (exit : Exit) (number : ℕ) (opened now : WireView) (reader after_reader : ReaderView) (left rest more before after : Option (List ℕ)) → exit_at next number ≡ Some exit → Served number opened now reader left rest before after → IsWithin after_reader.ahead after_reader.given →
+pub serves-exit : {since : ℕ} (next : Next) (exit : Exit) (number : ℕ) (opened now : WireView) (reader after_reader : ReaderView) (left rest more before after : Option (List ℕ)) → exit_at next number ≡ Some exit → Served number since opened now reader left rest before after → IsWithin after_reader.ahead after_reader.given →
     Finds (Ok next) reader after_reader rest more → Serves exit opened now left more before after
 serves-exit Line exit number opened now reader after_reader left rest more before after same served within finds = absurd (cc)
 serves-exit Last exit number opened now reader after_reader left rest more before after same served within finds = absurd (cc)
@@ -325,7 +358,7 @@ serves-exit Full exit number opened now reader after_reader left rest more befor
     subst (λ (e : Exit). Serves e opened now left more before after) exit_is (serves-full number opened now reader after_reader left rest more before after served within finds)
 
 -- a line, where there is no such exit
-pub at-any : (next : Next) (number : ℕ) (opened now : WireView) (reader after_reader : ReaderView) (left rest more before after : Option (List ℕ)) → exit_at next number ≡ None → (served : Served number opened now reader left rest before after) → IsWithin after_reader.ahead after_reader.given →
+pub at-any : {since : ℕ} (next : Next) (number : ℕ) (opened now : WireView) (reader after_reader : ReaderView) (left rest more before after : Option (List ℕ)) → exit_at next number ≡ None → (served : Served number since opened now reader left rest before after) → IsWithin after_reader.ahead after_reader.given →
     Finds (Ok next) reader after_reader rest more → AtLine served.raws after_reader.line left more
 at-any Line number opened now reader after_reader left rest more before after same served within finds = at-line number opened now reader after_reader left rest more before after served within finds
 at-any Last number opened now reader after_reader left rest more before after same served within finds = at-last number opened now reader after_reader left rest more before after served within finds

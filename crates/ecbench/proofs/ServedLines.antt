@@ -1,6 +1,7 @@
 -- A script, line by line: what a line that was read leaves, done or not.
-use Rattle.std.proofs.Common.{◌≡◌, refl, sym, ap, ◌∙◌, subst, ℕ, ◌+◌, ◌≤◌, List, [], ◌∷◌, ◌++◌, length, length-append, map, append_assoc, append-nil, ◌⊎◌, inl, inr, Option, Some, Ok, Err, arith}
-use Rattle.ec_types.specs.declared.bus.BusKind.{BusKind}
+use Rattle.std.proofs.Common.{◌≡◌, refl, sym, ap, ◌∙◌, subst, ℕ, ◌+◌, ◌≤◌, cond, Bool, true, false, nat_lt, if◌then◌else◌, List, [], ◌∷◌, ◌++◌, drop, length, length-append, map, append_assoc, append-nil, ◌⊎◌, inl, inr, Option, Some, Result, Ok, Err, arith}
+use Rattle.std.proofs.lemmas.Bool.{lt-ltb, le-ltb}
+use Rattle.std.proofs.Math.Seq.{drop-append_seam}
 use Rattle.ec_model.specs.declared.event.Entry.{Entry}
 use Rattle.ec_model.specs.declared.event.Entry.TheVariants.{Mark}
 use Rattle.ec_wire.specs.Calls.{WireView}
@@ -12,56 +13,135 @@ use Rattle.line_reader.proofs.Splitting.{line-splits, line-read, last-lines}
 use Rattle.ectool_lines.specs.Running.{Appends}
 use Rattle.ecbench.specs.declared.run.Exit.{Exit}
 use Rattle.ecbench.specs.declared.run.Exit.TheVariants.{Done, BadWords, BadFlash, BadLine, SourceFault, SinkFault, NoMemory, ScriptTooLong}
-use Rattle.ecbench.specs.Lines.{DoesDeed, IsDone, WasPassed, WasDone, AreDone}
-use Rattle.ecbench.specs.Endings.{seen}
+use Rattle.ecbench.specs.Lines.{Nothing, MarksLine, DoesLine, PassesOver, IsDone, WasPassed, WasDone, AreDone}
+use Rattle.ecbench.specs.Scripts.{Plays}
 use Rattle.bench_wire.specs.Adding.{Extends}
 use Rattle.bench_wire.proofs.Extending.{extends-then}
-use Rattle.ecbench.specs.Serving.{Serves, ServesLine, PassesLine, DoesLine, MarksLine}
+use Rattle.ecbench.specs.Serving.{Serves, ServesLine, PrintsLine}
 use Rattle.ecbench.proofs.Doing.{done-more}
-use Rattle.ecbench.proofs.Adding.{extends-none, marks-extends, line-adds}
-use Rattle.ecbench.proofs.ServedLemmas.{AtLine, Served, appends-then, before-line, line-number, script-fits, taken-more}
+use Rattle.std.specs.Prelude.{IfSome, count_by}
+use Rattle.std.proofs.lemmas.List.Sums.{sum_by-append}
+use Rattle.ec_model.specs.Upset.{is_cut_entry}
+use Rattle.ec_wire.specs.Calls.{RunsAlong}
+use Rattle.ec_wire.proofs.Appends.{count_by-append}
+use Rattle.ec_model.specs.Bench.{BenchCall}
+use Rattle.ecbench.specs.Cutting.{CutsBy, CutsAlong, arms_cut}
+use Rattle.ecbench.specs.Playing.{IsCalled, AreCalled, PlaysOn, PlaysLines}
+use Rattle.ecbench.proofs.PlayLines.{on-then, on-none, called-more}
+use Rattle.ecbench.proofs.CutCounts.{told-then, told-as, still-told}
+use Rattle.ecbench.proofs.Adding.{arms-none, extends-none, marks-extends, line-adds}
+use Rattle.ecbench.proofs.ServedLemmas.{AtLine, Served, along, plays-lines, appends-then, before-line, line-number, script-fits, taken-more}
 
--- a line that was done on the wire
-record LineDid (kind : BusKind) (number : ℕ) (line : List ℕ) (old new : WireView) (before after : Option (List ℕ)) : Type 0 where
+-- where the entries of the last line begin that did something, once one more was read
+abbrev pub since_behind : ℕ → (old new : WireView) → ℕ
+since_behind since old new = if nat_lt (length old.entries) (length new.entries) then length old.entries else since
+
+-- they begin within the entries
+since-within : (since : ℕ) (old new : WireView) (added : List Entry) → new.entries ≡ old.entries ++ added → since ≤ length old.entries → since_behind since old new ≤ length new.entries
+since-within since old new added entries within = by (nat_lt (length old.entries) (length new.entries)) where
+  by : (b : Bool) → (if b then length old.entries else since) ≤ length new.entries
+  by true = omega (arith, ap length entries, length-append old.entries added)
+  by false = omega (arith, ap length entries, length-append old.entries added, within)
+
+-- nothing was added
+since-same : (since : ℕ) (old new : WireView) (last : List Entry) → new ≡ old → drop since old.entries ≡ last → drop (since_behind since old new) new.entries ≡ last
+since-same since old new last same is =
+    let count = length old.entries in
+    let still : since_behind since old new ≡ since =
+    ap (λ (view : WireView). if nat_lt count (length view.entries) then count else since) same ∙ ap (λ (b : Bool). if b then count else since) (le-ltb count count (omega arith)) in
+    ap (λ (n : ℕ). drop n new.entries) still ∙ ap (λ (view : WireView). drop since view.entries) same ∙ is
+
+-- some entries were added
+since-more : (since : ℕ) (old new : WireView) (added : List Entry) → new.entries ≡ old.entries ++ added → 1 ≤ length added → drop (since_behind since old new) new.entries ≡ added
+since-more since old new added entries some =
+    let count = length old.entries in
+    let more : since_behind since old new ≡ count =
+    ap (λ (b : Bool). if b then count else since) (lt-ltb count (length new.entries) (omega (arith, ap length entries, length-append old.entries added, some))) in
+    ap (λ (n : ℕ). drop n new.entries) more ∙ ap (drop count) entries ∙ drop-append_seam old.entries added
+
+-- a line that was done on the wire, or passed over
+record LineDid (number : ℕ) (last : List Entry) (line : List ℕ) (old new : WireView) (before after : Option (List ℕ)) : Type 0 where
   pub own : List Entry
   pub said : List ℕ
   pub extends : Extends own old new
-  pub done : IsDone (seen kind) number old.on line own said new.on
+  pub behind : List Entry
+  pub done : IsDone number last line said old new behind
+  pub since_is : (since : ℕ) → drop since old.entries ≡ last → drop (since_behind since old new) new.entries ≡ behind
   pub printed : Appends said before after
+  pub cuts : IfSome old.table (λ table. CutsBy (count_by arms_cut (line ∷ [])) (count_by is_cut_entry own) old.cut old.own_cuts new.cut new.own_cuts)
+  pub calls : List BenchCall
+  pub called : IsCalled number line calls
+  pub played : PlaysOn calls own old new
 
-line-did : {kind : BusKind} (number : ℕ) (line : List ℕ) (old new : WireView) (before after : Option (List ℕ)) → old.bus ≡ kind → old.armed ≡ [] → PassesLine line old new before after ⊎ ((text : List ℕ) × DoesLine number line text old new × Appends text before after) → LineDid kind number line old new before after
-line-did number line old new before after bus_is disarmed (inl passes) =
+line-did : (number : ℕ) (last : List Entry) (line : List ℕ) (old new : WireView) (before after : Option (List ℕ)) → (PassesOver line [] old new × Appends [] before after) ⊎ PrintsLine number last line old new before after → LineDid number last line old new before after
+line-did number last line old new before after (inl (passes, unprinted)) =
     record {
       own = [];
       said = [];
       extends = subst (λ (view : WireView). Extends [] old view) (sym passes.same) (extends-none old);
-      done = WasPassed (record { wants = passes.wants; no_entry = refl; unsaid = refl; same = ap (λ (view : WireView). view.on) passes.same });
-      printed = passes.unprinted;
+      behind = last;
+      done = WasPassed passes refl;
+      since_is = λ since is. since-same since old new last passes.same is;
+      printed = unprinted;
+      cuts = told-as 0 (count_by arms_cut (line ∷ [])) 0 0 old new old.table (sym (arms-none line Nothing passes.wants refl)) refl
+          (still-told old new old.table (ap (λ (view : WireView). view.cut) passes.same) (ap (λ (view : WireView). view.own_cuts) passes.same));
+      calls = [];
+      called = inl (passes.wants, refl);
+      played = subst (λ (view : WireView). PlaysOn [] [] old view) (sym passes.same) (on-none old);
     }
-line-did number line old new before after bus_is disarmed (inr (text, carries, printed)) =
-    let adds = line-adds number line text old new bus_is disarmed carries in
-    record { own = adds.added; said = text; extends = adds.extends; done = WasDone adds.does; printed = printed }
+line-did number last line old new before after (inr prints) =
+    let adds = line-adds number last line prints.text old new prints.does in
+    record { own = adds.added; said = prints.text; extends = adds.extends; behind = adds.added; done = WasDone prints.does adds.extends.entries; since_is = λ since is. since-more since old new adds.added adds.extends.entries adds.some; printed = prints.printed; cuts = adds.cuts; calls = adds.calls; called = adds.called; played = adds.played }
+
+-- what was done with a line, behind the entries of the last one
+pub told-by : {number since : ℕ} {opened now : WireView} {reader : ReaderView} {left rest before after : Option (List ℕ)} → (served : Served number since opened now reader left rest before after) → (result : Result (Unit {0}) Exit) (at : ℕ) (line : List ℕ) (new : WireView) (middle printed : Option (List ℕ)) →
+    ServesLine result at (drop since now.entries) line now new middle printed → ServesLine result at served.last line now new middle printed
+told-by {now = now} served result at line new middle printed serves =
+    subst (λ (last : List Entry). ServesLine result at last line now new middle printed) served.since_is serves
+
+-- how often power was lost in lines and in one more
+cuts-more : (lines : List (List ℕ)) (line : List ℕ) (first second : List Entry) (old middle new : WireView) → RunsAlong first old.table middle.table →
+    IfSome old.table (λ table. CutsBy (count_by arms_cut lines) (count_by is_cut_entry first) old.cut old.own_cuts middle.cut middle.own_cuts) →
+    IfSome middle.table (λ table. CutsBy (count_by arms_cut (line ∷ [])) (count_by is_cut_entry second) middle.cut middle.own_cuts new.cut new.own_cuts) →
+    IfSome old.table (λ table. CutsBy (count_by arms_cut (lines ++ line ∷ [])) (count_by is_cut_entry (first ++ second)) old.cut old.own_cuts new.cut new.own_cuts)
+cuts-more lines line first second old middle new runs once again =
+    told-as (count_by arms_cut lines + count_by arms_cut (line ∷ [])) (count_by arms_cut (lines ++ line ∷ [])) (count_by is_cut_entry first + count_by is_cut_entry second) (count_by is_cut_entry (first ++ second)) old new old.table
+    (sym (sum_by-append (λ (text : List ℕ). cond (arms_cut text) 1 0) lines (line ∷ []))) (sym (count_by-append is_cut_entry first second))
+    (told-then (count_by arms_cut lines) (count_by arms_cut (line ∷ [])) (count_by is_cut_entry first) (count_by is_cut_entry second) old.cut middle.cut new.cut old.own_cuts middle.own_cuts new.own_cuts first old.table middle.table runs once again)
 
 -- a line behind others
-record DidMore (number : ℕ) (raws : List (List ℕ)) (line : List ℕ) (opened new : WireView) (before later : Option (List ℕ)) : Type 0 where
+record DidMore (number since : ℕ) (raws : List (List ℕ)) (line : List ℕ) (opened now new : WireView) (before later : Option (List ℕ)) : Type 0 where
   pub own : List Entry
   pub extends : Extends own opened new
   pub text : List ℕ
-  pub done : AreDone (seen opened.bus) 1 opened.on (map without_return raws ++ line ∷ []) own text new.on
+  pub last : List Entry
+  pub since_is : drop (since_behind since now new) new.entries ≡ last
+  pub within : since_behind since now new ≤ length new.entries
+  pub done : AreDone 1 opened.entries (map without_return raws ++ line ∷ []) text opened new last
   pub printed : Appends text before later
+  pub cuts : IfSome opened.table (λ table. CutsBy (count_by arms_cut (map without_return raws ++ line ∷ [])) (count_by is_cut_entry own) opened.cut opened.own_cuts new.cut new.own_cuts)
+  pub calls : List BenchCall
+  pub called : AreCalled 1 (map without_return raws ++ line ∷ []) calls
+  pub played : PlaysOn calls own opened new
 
-did-more : (number : ℕ) (opened now new : WireView) (reader : ReaderView) (line : List ℕ) (left rest before after printed : Option (List ℕ)) → (served : Served number opened now reader left rest before after) → opened.armed ≡ [] →
-    ServesLine (Ok tt) number line now new after printed → DidMore number served.raws line opened new before printed
-did-more number opened now new reader line left rest before after printed served disarmed line_done =
-    let extends = served.extends in
-    let did = line-did number line now new after printed extends.bus (extends.armed disarmed) line_done in
+did-more : {since : ℕ} (number : ℕ) (opened now new : WireView) (reader : ReaderView) (line : List ℕ) (left rest before after printed : Option (List ℕ)) → (served : Served number since opened now reader left rest before after) →
+    ServesLine (Ok tt) number served.last line now new after printed → DidMore number since served.raws line opened now new before printed
+did-more {since} number opened now new reader line left rest before after printed served line_done =
+    let did = line-did number served.last line now new after printed line_done in
     record {
       own = served.own ++ did.own;
       extends = extends-then served.own did.own opened now new served.extends did.extends;
       text = served.text ++ did.said;
-      done = done-more (seen opened.bus) 1 opened.on (map without_return served.raws) served.own served.text now.on number line did.own did.said new.on
+      last = did.behind;
+      since_is = did.since_is since served.since_is;
+      within = since-within since now new did.own did.extends.entries served.within;
+      done = done-more 1 opened.entries (map without_return served.raws) served.text opened now served.last number line did.said new did.behind
           (omega (arith, line-number number served.raws served.number_is)) served.done did.done;
       printed = appends-then served.text did.said before after printed served.printed did.printed;
+      cuts = cuts-more (map without_return served.raws) line served.own did.own opened now new served.extends.run served.cuts did.cuts;
+      calls = served.calls ++ did.calls;
+      called = called-more 1 (map without_return served.raws) line number served.calls did.calls (omega (arith, line-number number served.raws served.number_is)) served.called did.called;
+      played = on-then served.calls did.calls served.own did.own opened now new served.played did.played;
     }
 
 -- the lines with one more
@@ -70,13 +150,13 @@ map-more [] raw = refl
 map-more (first ∷ raws) raw = ap (λ (rest : List (List ℕ)). without_return first ∷ rest) (map-more raws raw)
 
 -- one more line was done
-pub served-more : (number : ℕ) (opened now new : WireView) (reader after_reader : ReaderView) (left rest more before after printed : Option (List ℕ)) → Served number opened now reader left rest before after → opened.armed ≡ [] →
-    Finds (Ok Line) reader after_reader rest more → ServesLine (Ok tt) number after_reader.line now new after printed → Served (number + 1) opened new after_reader left more before printed
-served-more number opened now new reader after_reader left rest more before after printed served disarmed finds line_done =
+pub served-more : {since : ℕ} (number : ℕ) (opened now new : WireView) (reader after_reader : ReaderView) (left rest more before after printed : Option (List ℕ)) → (served : Served number since opened now reader left rest before after) →
+    Finds (Ok Line) reader after_reader rest more → ServesLine (Ok tt) number served.last after_reader.line now new after printed → Served (number + 1) (since_behind since now new) opened new after_reader left more before printed
+served-more number opened now new reader after_reader left rest more before after printed served finds line_done =
     let all = reader.ahead ++ finds.came in
     let found = finds.says in
     let taken = taken-more number opened now reader left rest more before after finds.came served finds.taken in
-    let did = did-more number opened now new reader after_reader.line left rest before after printed served disarmed line_done in
+    let did = did-more number opened now new reader after_reader.line left rest before after printed served line_done in
     let used = served.used ++ (found.raw ++ 10 ∷ []) in
     let bytes : served.used ++ all ≡ used ++ after_reader.ahead =
     ap (λ (b : List ℕ). served.used ++ b) (found.bytes ∙ sym (append_assoc found.raw (10 ∷ []) after_reader.ahead)) ∙ sym (append_assoc served.used (found.raw ++ 10 ∷ []) after_reader.ahead) in
@@ -94,18 +174,25 @@ served-more number opened now new reader after_reader left rest more before afte
       own = did.own;
       extends = did.extends;
       text = did.text;
-      done = subst (λ (ls : List (List ℕ)). AreDone (seen opened.bus) 1 opened.on ls did.own did.text new.on) (sym lines_are) did.done;
+      last = did.last;
+      since_is = did.since_is;
+      within = did.within;
+      cuts = subst (λ (ls : List (List ℕ)). IfSome opened.table (λ table. CutsBy (count_by arms_cut ls) (count_by is_cut_entry did.own) opened.cut opened.own_cuts new.cut new.own_cuts)) (sym lines_are) did.cuts;
+      calls = did.calls;
+      called = subst (λ (ls : List (List ℕ)). AreCalled 1 ls did.calls) (sym lines_are) did.called;
+      played = did.played;
+      done = subst (λ (ls : List (List ℕ)). AreDone 1 opened.entries ls did.text opened new did.last) (sym lines_are) did.done;
       printed = did.printed;
     }
 
 -- the last line was done
-pub serves-last : (number : ℕ) (opened now new : WireView) (reader after_reader : ReaderView) (left rest more before after printed : Option (List ℕ)) → Served number opened now reader left rest before after → opened.armed ≡ [] → after_reader.given ≤ most_bytes →
-    Finds (Ok Last) reader after_reader rest more → ServesLine (Ok tt) number after_reader.line now new after printed → Serves Done opened new left more before printed
-serves-last number opened now new reader after_reader left rest more before after printed served disarmed within finds line_done =
+pub serves-last : {since : ℕ} (number : ℕ) (opened now new : WireView) (reader after_reader : ReaderView) (left rest more before after printed : Option (List ℕ)) → (served : Served number since opened now reader left rest before after) → after_reader.given ≤ most_bytes →
+    Finds (Ok Last) reader after_reader rest more → ServesLine (Ok tt) number served.last after_reader.line now new after printed → Serves Done opened new left more before printed
+serves-last number opened now new reader after_reader left rest more before after printed served within finds line_done =
     let all = reader.ahead ++ finds.came in
     let last = finds.says in
     let taken = taken-more number opened now reader left rest more before after finds.came served finds.taken in
-    let did = did-more number opened now new reader after_reader.line left rest before after printed served disarmed line_done in
+    let did = did-more number opened now new reader after_reader.line left rest before after printed served line_done in
     let script = served.used ++ all in
     let fits : length script ≤ most_bytes = omega (arith, length-append served.used all, ap length last.bytes, served.read, last.read, within) in
     let told : IsLast reader after_reader all (Some []) =
@@ -121,26 +208,28 @@ serves-last number opened now new reader after_reader left rest more before afte
         record { takes = taken; end = last.left; fits = fits },
         record {
           text = did.text;
-          new = new.on;
-          done = subst (λ (ls : List (List ℕ)). AreDone (seen opened.bus) 1 opened.on ls did.own did.text new.on) (sym lines_are) did.done;
+          own = did.last;
+          done = subst (λ (ls : List (List ℕ)). AreDone 1 opened.entries ls did.text opened new did.last) (sym lines_are) did.done;
           printed = did.printed;
+          cuts = subst (λ (ls : List (List ℕ)). CutsAlong (count_by arms_cut ls) opened new) (sym lines_are) (record { added = did.own; entries = did.extends.entries; counted = did.cuts });
+          played = subst (λ (ls : List (List ℕ)). PlaysLines ls opened new) (sym lines_are) (record { calls = did.calls; called = did.called; added = did.own; entries = did.extends.entries; played = did.played });
         },
       );
     }
 
 -- at most a mark of a line
-marked-extends : (number : ℕ) (old new : WireView) → (new ≡ old) ⊎ MarksLine number old new → (last : List Entry) × ((last ≡ []) ⊎ (last ≡ Mark number ∷ [])) × Extends last old new
-marked-extends number old new (inl same) = ([], inl refl, subst (λ (view : WireView). Extends [] old view) (sym same) (extends-none old))
-marked-extends number old new (inr marks) = (Mark number ∷ [], inr refl, marks-extends number old new marks)
+marked-extends : (number : ℕ) (old new : WireView) → (new ≡ old) ⊎ MarksLine number old new → (last : List Entry) × Extends last old new
+marked-extends number old new (inl same) = ([], subst (λ (view : WireView). Extends [] old view) (sym same) (extends-none old))
+marked-extends number old new (inr marks) = (Mark number ∷ [], marks-extends number old new marks)
 
 -- texts of which nothing follows
 appends-last : (text : List ℕ) (old middle new : Option (List ℕ)) → Appends text old middle → Appends [] middle new → Appends text old new
 appends-last text old middle new once again = subst (λ (bytes : List ℕ). Appends bytes old new) (append-nil text) (appends-then text [] old middle new once again)
 
 -- a line ended the script
-pub serves-stopped : (exit : Exit) (number : ℕ) (opened now new : WireView) (reader : ReaderView) (line : List ℕ) (left rest more before after printed : Option (List ℕ)) → (served : Served number opened now reader left rest before after) → opened.armed ≡ [] →
-    AtLine served.raws line left more → ServesLine (Err exit) number line now new after printed → Serves exit opened new left more before printed
-serves-stopped (BadLine at reason) number opened now new reader line left rest more before after printed served disarmed at_line (same, faulty, still, unprinted) =
+pub serves-stopped : {since : ℕ} (exit : Exit) (number : ℕ) (opened now new : WireView) (reader : ReaderView) (line : List ℕ) (left rest more before after printed : Option (List ℕ)) → (served : Served number since opened now reader left rest before after) →
+    AtLine served.raws line left more → ServesLine (Err exit) number served.last line now new after printed → Serves exit opened new left more before printed
+serves-stopped (BadLine at reason) number opened now new reader line left rest more before after printed served at_line (same, faulty, still, unprinted) =
     record {
       own = served.own;
       extends = subst (λ (view : WireView). Extends served.own opened view) (sym still) served.extends;
@@ -154,13 +243,13 @@ serves-stopped (BadLine at reason) number opened now new reader line left rest m
         record {
           is_line = at_line.is_line;
           number_is = same ∙ line-number number served.raws served.number_is;
-          plays = record { text = served.text; new = now.on; done = served.done; printed = appends-last served.text before after printed served.printed unprinted };
+          plays = subst (λ (view : WireView). Plays opened.entries (map without_return served.raws) opened view before printed) (sym still)
+              (record { text = served.text; own = served.last; done = served.done; printed = appends-last served.text before after printed served.printed unprinted; cuts = along served; played = plays-lines served });
         },
       );
     }
-serves-stopped SinkFault number opened now new reader line left rest more before after printed served disarmed at_line (text, carries, front) =
-    let extends = served.extends in
-    let adds = line-adds number line text now new extends.bus (extends.armed disarmed) carries in
+serves-stopped SinkFault number opened now new reader line left rest more before after printed served at_line (text, does, front) =
+    let adds = line-adds number served.last line text now new does in
     record {
       own = served.own ++ adds.added;
       extends = extends-then served.own adds.added opened now new served.extends adds.extends;
@@ -172,23 +261,32 @@ serves-stopped SinkFault number opened now new reader line left rest more before
         at_line.is_script,
         at_line.is_line,
         record {
-          first = served.own;
-          last = adds.added;
+          middle = now;
           between = after;
           text = text;
-          new = new.on;
-          entries_are = refl;
           plays = before-line number opened now reader left rest before after served;
-          does = subst (λ (n : ℕ). DoesDeed (seen opened.bus) n now.on line adds.added text new.on) (line-number number served.raws served.number_is) adds.does;
+          does = subst (λ (n : ℕ). DoesLine n served.last line text now new) (line-number number served.raws served.number_is) does;
           printed = front;
+          cuts = record {
+            added = served.own ++ adds.added;
+            entries = (extends-then served.own adds.added opened now new served.extends adds.extends).entries;
+            counted = cuts-more (map without_return served.raws) line served.own adds.added opened now new served.extends.run served.cuts adds.cuts;
+          };
+          played = record {
+            calls = served.calls ++ adds.calls;
+            called = called-more 1 (map without_return served.raws) line number served.calls adds.calls (omega (arith, line-number number served.raws served.number_is)) served.called adds.called;
+            added = served.own ++ adds.added;
+            entries = (extends-then served.own adds.added opened now new served.extends adds.extends).entries;
+            played = on-then served.calls adds.calls served.own adds.added opened now new served.played adds.played;
+          };
         },
       );
     }
-serves-stopped NoMemory number opened now new reader line left rest more before after printed served disarmed at_line (marked, unprinted) =
+serves-stopped NoMemory number opened now new reader line left rest more before after printed served at_line (marked, unprinted) =
     let mark = marked-extends number now new marked in
     record {
       own = served.own ++ mark.0;
-      extends = extends-then served.own mark.0 opened now new served.extends mark.2;
+      extends = extends-then served.own mark.0 opened now new served.extends mark.1;
       plays = (
         at_line.script,
         at_line.taken,
@@ -197,16 +295,25 @@ serves-stopped NoMemory number opened now new reader line left rest more before 
         at_line.is_script,
         at_line.is_line,
         record {
-          first = served.own;
-          last = mark.0;
-          entries_are = refl;
-          marked = subst (λ (n : ℕ). (mark.0 ≡ []) ⊎ (mark.0 ≡ Mark n ∷ [])) (line-number number served.raws served.number_is) mark.1;
-          plays = record { text = served.text; new = now.on; done = served.done; printed = appends-last served.text before after printed served.printed unprinted };
+          middle = now;
+          plays = record { text = served.text; own = served.last; done = served.done; printed = appends-last served.text before after printed served.printed unprinted; cuts = along served; played = plays-lines served };
+          marked = subst (λ (n : ℕ). (new ≡ now) ⊎ MarksLine n now new) (line-number number served.raws served.number_is) marked;
         },
       );
     }
-serves-stopped Done number opened now new reader line left rest more before after printed served disarmed at_line never = absurd never
-serves-stopped BadWords number opened now new reader line left rest more before after printed served disarmed at_line never = absurd never
-serves-stopped BadFlash number opened now new reader line left rest more before after printed served disarmed at_line never = absurd never
-serves-stopped SourceFault number opened now new reader line left rest more before after printed served disarmed at_line never = absurd never
-serves-stopped ScriptTooLong number opened now new reader line left rest more before after printed served disarmed at_line never = absurd never
+serves-stopped Done number opened now new reader line left rest more before after printed served at_line never = absurd never
+serves-stopped BadWords number opened now new reader line left rest more before after printed served at_line never = absurd never
+serves-stopped BadFlash number opened now new reader line left rest more before after printed served at_line never = absurd never
+serves-stopped SourceFault number opened now new reader line left rest more before after printed served at_line never = absurd never
+serves-stopped ScriptTooLong number opened now new reader line left rest more before after printed served at_line never = absurd never
+
+-- the same, where the last line begins
+pub served-since : {number since : ℕ} {opened now : WireView} {reader : ReaderView} {left rest before after : Option (List ℕ)} → (other : ℕ) → other ≡ since → Served number since opened now reader left rest before after → Served number other opened now reader left rest before after
+served-since {number = number} {opened = opened} {now = now} {reader = reader} {left = left} {rest = rest} {before = before} {after = after} other same served =
+    subst (λ (place : ℕ). Served number place opened now reader left rest before after) (sym same) served
+
+pub since-is : (since start end result : ℕ) (old new : WireView) → result ≡ (if nat_lt start end then start else since) → start ≡ length old.entries → end ≡ length new.entries → result ≡ since_behind since old new
+since-is since start end result old new same start_is end_is =
+    same
+    ∙ ap (λ (n : ℕ). if nat_lt n end then n else since) start_is
+    ∙ ap (λ (n : ℕ). if nat_lt (length old.entries) n then length old.entries else since) end_is

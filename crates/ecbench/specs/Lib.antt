@@ -1,4 +1,7 @@
+pub mod Tracing
 pub mod Lines
+pub mod Cutting
+pub mod Playing
 pub mod Scripts
 pub mod Endings
 pub mod Serving

@@ -1,127 +1,141 @@
--- Lines of a script that are done.
-use Rattle.std.specs.Prelude.{◌≡◌, ℕ, ◌+◌, List, [], ◌∷◌, ◌++◌, codes, IsFalse, Result, Ok, Err}
-use Rattle.std.specs.List.{list_any}
+-- Lines of a script that are done on a bench.
+--
+-- Where a script stands is told by what the bench shows its host (`WireView`): the journal so far, the room in it, whether the
+-- controller is on, what is armed, and, where the flash tells its bytes, the controller's state. Each line leads from one such view
+-- to the next.
+use Rattle.std.specs.Prelude.{◌≡◌, ℕ, ◌+◌, List, [], ◌∷◌, ◌++◌, codes, Option, Result, Ok, Err}
 use Rattle.ec_types.specs.Tables.{packet_limit}
-use Rattle.ec_types.specs.declared.bus.BusKind.{BusKind}
 use Rattle.ec_types.specs.declared.why.Why.{Why}
-use Rattle.ec_model.specs.declared.event.Event.{Event}
-use Rattle.ec_model.specs.declared.event.Event.TheVariants as event
+use Rattle.flash_dev.specs.Told.{Changes}
+use Rattle.ec_model.specs.declared.event.WorldEvent.{WorldEvent}
+use Rattle.ec_model.specs.declared.event.WorldEvent.TheVariants as world
 use Rattle.ec_model.specs.declared.event.Entry.{Entry}
-use Rattle.ec_model.specs.declared.event.Entry.TheVariants.{Step, Mark}
-use Rattle.flash_dev.specs.declared.hurt.Hurt.{Hurt}
-use Rattle.ec_model.specs.HostCalls.{HostCall}
-use Rattle.ec_model.specs.Upset.{is_world, is_changed}
-use Rattle.host_transport.specs.Once.{Ending}
+use Rattle.ec_model.specs.Bench.{cut_at}
+use Rattle.ec_model.specs.Table.{Table}
+use Rattle.ec_wire.specs.Calls.{WireView, with_spare}
+use Rattle.bench_wire.specs.Adding.{IsMarked, Happens as HappensNow}
+use Rattle.bench_wire.specs.Arming.{IsArmed}
+use Rattle.bench_wire.specs.declared.arms.ArmsFull.{ArmsFull}
 use Rattle.script_words.specs.Forms.{◌>>=◌}
 use Rattle.script_lines.specs.declared.line.Line.{Line}
 use Rattle.script_lines.specs.declared.line.Line.TheVariants as line
+use Rattle.script_lines.specs.declared.line.BusLine.{BusLine}
 use Rattle.script_lines.specs.Lines.{line_of}
+use Rattle.bus_lines.specs.Making.{MakesBusLine}
 use Rattle.ectool_lines.specs.declared.tool.Tool.{Tool}
 use Rattle.ectool_lines.specs.Tools.{tool_of, IsInRange}
 use Rattle.ectool_lines.specs.Requests.{Asked, commands_of}
-use Rattle.ectool_lines.specs.Texts.{LineEnd, line_text, printed}
+use Rattle.ectool_lines.specs.Texts.{LineEnd, printed}
 use Rattle.ectool_lines.specs.Asking.{AsksEach}
-use Rattle.script_lines.specs.declared.line.BusLine.{BusLine}
-use Rattle.bus_lines.specs.BusCalls.{IsBusLine}
+use Rattle.ectool_lines.specs.Following.{Follows}
+use Rattle.ectool_lines.specs.Running.{Carries}
+use Rattle.ecbench.specs.Tracing.{trace_text}
 
--- what a line wants: nothing, that commands are sent, that an event of the world happens, or that the host makes calls of
--- its own
+-- what a line wants: nothing, that commands are sent, that an event of the world happens, that the host makes calls of its
+-- own, that an event of the world is armed for a call to come, that a cut is armed for a flash operation to come, or that
+-- entries are counted
 pub data Deed : Type 0 where
   Nothing : Deed
   Asks : Tool → Deed
-  Happens : Event → Deed
+  Happens : WorldEvent → Deed
   Makes : BusLine → Deed
+  Arms : (call : ℕ) → WorldEvent → Deed
+  Cuts : (operation : ℕ) → (torn : List ℕ) → Deed
+  Traces : Deed
 
 -- what a line wants that was read so far
 abbrev pub deed_by : List ℕ → Line → Result Deed Why
 deed_by text line.Nothing = Ok Nothing
 deed_by text line.Tool = tool_of text >>= λ tool. Ok (Asks tool)
-deed_by text (line.Pin on) = Ok (Happens (event.Pin on))
-deed_by text (line.Power on) = Ok (Happens (event.Power on))
-deed_by text (line.Reset cause) = Ok (Happens (event.Reset cause))
+deed_by text (line.Pin on) = Ok (Happens (world.Pin on))
+deed_by text (line.Power on) = Ok (Happens (world.Power on))
+deed_by text (line.Reset cause) = Ok (Happens (world.Reset cause))
 deed_by text (line.Bus calls) = Ok (Makes calls)
+deed_by text (line.At call event) = Ok (Arms call event)
+deed_by text (line.Cut operation torn) = Ok (Cuts operation torn)
+deed_by text line.Trace = Ok Traces
 
 -- what a line wants, or its first fault
 abbrev pub deed_of : List ℕ → Result Deed Why
 deed_of text = line_of text >>= λ read. deed_by text read
 
--- How a controller lives on a bus, by a state of it: how one command goes, how an event of the world does, and how calls of the host
--- do. So the same words tell what the host sees of any controller, and what one that nothing disturbs does.
-pub record Life (State : Type 0) : Type 1 where
-  pub bus : BusKind
-  pub asks : State → Asked → List Entry → Ending → State → Type 0
-  pub happens : State → Event → Hurt → State → Type 0
-  pub makes : State → List HostCall → List Entry → State → Type 0
-
--- a line was carried out: its mark, its commands in their order, and its text by how they ended; no event of the world falls
--- among its entries, and no byte is changed
-pub record CarriesOut {State : Type 0} (life : Life State)
-    (number : ℕ) (old : State) (text : List ℕ) (entries : List Entry) (said : List ℕ) (new : State) : Type 0 where
-  pub tool : Tool
-  pub end : LineEnd
-  pub own : List Entry
-  pub wants : deed_of text ≡ Ok (Asks tool)
-  pub within : IsInRange tool
-  pub entries_are : entries ≡ Mark number ∷ own
-  pub alone : IsFalse (list_any is_world own)
-  pub unchanged : IsFalse (list_any is_changed own)
-  pub asks_each : AsksEach life.asks old (commands_of (packet_limit life.bus) tool) own end new
-  pub said_is : said ≡ printed (line_text tool end)
-
--- a line's event of the world happened: its mark, its event, and `ok`
-pub record HappensOnce {State : Type 0} (life : Life State)
-    (number : ℕ) (old : State) (text : List ℕ) (entries : List Entry) (said : List ℕ) (new : State) : Type 0 where
-  pub event : Event
-  pub hurt : Hurt
-  pub wants : deed_of text ≡ Ok (Happens event)
-  pub entries_are : entries ≡ Mark number ∷ Step event 0 0 0 hurt ∷ []
-  pub goes : life.happens old event hurt new
-  pub said_is : said ≡ printed (codes "ok")
-
--- a line's calls were made: its mark, its calls in their order, and its text by what the host got; no event of the world
--- falls among its entries, and no byte is changed
-pub record MakesCalls {State : Type 0} (life : Life State)
-    (number : ℕ) (old : State) (text : List ℕ) (entries : List Entry) (said : List ℕ) (new : State) : Type 0 where
-  pub line : BusLine
-  pub calls : List HostCall
-  pub words : List ℕ
-  pub own : List Entry
-  pub wants : deed_of text ≡ Ok (Makes line)
-  pub entries_are : entries ≡ Mark number ∷ own
-  pub alone : IsFalse (list_any is_world own)
-  pub unchanged : IsFalse (list_any is_changed own)
-  pub is_line : IsBusLine line calls words
-  pub goes : life.makes old calls own new
-  pub said_is : said ≡ printed words
-
--- a line that wants nothing was passed over
-pub record PassesOver {State : Type 0} (old : State) (text : List ℕ) (entries : List Entry) (said : List ℕ) (new : State) : Type 0 where
-  pub wants : deed_of text ≡ Ok Nothing
-  pub no_entry : entries ≡ []
-  pub unsaid : said ≡ []
-  pub same : new ≡ old
-
--- a line was done that wants something
-pub data DoesDeed {State : Type 0} (life : Life State)
-    (number : ℕ) (old : State) (text : List ℕ) (entries : List Entry) (said : List ℕ) (new : State) : Type 0 where
-  WasCarried : CarriesOut life number old text entries said new → DoesDeed life number old text entries said new
-  HasHappened : HappensOnce life number old text entries said new → DoesDeed life number old text entries said new
-  HasMade : MakesCalls life number old text entries said new → DoesDeed life number old text entries said new
-
--- a line was done, or passed over where it wants nothing
-pub data IsDone {State : Type 0} (life : Life State)
-    (number : ℕ) (old : State) (text : List ℕ) (entries : List Entry) (said : List ℕ) (new : State) : Type 0 where
-  WasPassed : PassesOver old text entries said new → IsDone life number old text entries said new
-  WasDone : DoesDeed life number old text entries said new → IsDone life number old text entries said new
-
--- lines were done one after the other, the first of which has this number
-abbrev pub AreDone : {State : Type 0} → Life State → ℕ → State → List (List ℕ) → List Entry → List ℕ → State → Type 0
-AreDone life number old [] entries said new = (entries ≡ []) × (said ≡ []) × (new ≡ old)
-AreDone {State} life number old (text ∷ texts) entries said new =
-    (first rest : List Entry) × (words more : List ℕ) × (middle : State)
-    × (entries ≡ first ++ rest) × (said ≡ words ++ more)
-    × IsDone life number old text first words middle × AreDone life (number + 1) middle texts rest more new
-
 -- a line is outside the grammar, and this is its first fault
 abbrev pub IsFaulty : List ℕ → Why → Type 0
 IsFaulty text reason = deed_of text ≡ Err reason
+
+-- room was made, and a line marked
+pub record MarksLine (number : ℕ) (old new : WireView) : Type 0 where
+  pub spare : ℕ
+  pub marked : IsMarked number (with_spare spare old) new
+
+-- where the flash tells its bytes, each command goes as the definitions say from the state that it finds, where nothing
+-- disturbed it; and where it is not answered, something did
+abbrev pub FollowsEach : List Asked → List Entry → LineEnd → Option Table → Option Table → Type 0
+FollowsEach commands entries end = Changes (λ old new. AsksEach Follows old commands entries end new)
+
+-- a line was marked, and its commands were sent in their order; this is its text, by how they ended
+pub record CarriesLine (number : ℕ) (text said : List ℕ) (old new : WireView) : Type 0 where
+  pub tool : Tool
+  pub wants : deed_of text ≡ Ok (Asks tool)
+  pub within : IsInRange tool
+  pub marked : WireView
+  pub marks : MarksLine number old marked
+  pub carries : Carries tool said marked new
+  pub follows : FollowsEach (commands_of (packet_limit marked.bus) tool) carries.carried.added carries.carried.end marked.table new.table
+
+-- a line was marked, and its event happened
+pub record HappensLine (number : ℕ) (happened : WorldEvent) (old new : WireView) : Type 0 where
+  pub marked : WireView
+  pub marks : MarksLine number old marked
+  pub happens : HappensNow happened marked new
+
+-- a line was marked, and these calls of the host were made; these are its words
+pub record MakesLine (number : ℕ) (calls : BusLine) (words : List ℕ) (old new : WireView) : Type 0 where
+  pub marked : WireView
+  pub marks : MarksLine number old marked
+  pub makes : MakesBusLine calls words marked new
+
+-- what is printed of an event that was to be armed
+abbrev pub armed_text : Result (Unit {0}) ArmsFull → List ℕ
+armed_text (Ok done) = codes "ok"
+armed_text (Err full) = codes "too many armed events"
+
+-- a line was marked, and an event of the world was armed behind the others, or refused where 64 are armed
+pub record ArmsLine (number call : ℕ) (event : WorldEvent) (result : Result (Unit {0}) ArmsFull) (old new : WireView) : Type 0 where
+  pub marked : WireView
+  pub marks : MarksLine number old marked
+  pub armed : IsArmed call event result marked new
+
+-- a line was marked, and a cut was armed in place of another one
+pub record CutsLine (number operation : ℕ) (torn : List ℕ) (old new : WireView) : Type 0 where
+  pub marked : WireView
+  pub marks : MarksLine number old marked
+  pub armed : new ≡ record marked { cut = cut_at operation torn }
+
+-- a line that wants something was done, and this is its text; `last` are the entries of the last line before that did something
+pub data DoesLine (number : ℕ) (last : List Entry) (text said : List ℕ) (old new : WireView) : Type 0 where
+  Carried : CarriesLine number text said old new → DoesLine number last text said old new
+  Happened : (happened : WorldEvent) → deed_of text ≡ Ok (Happens happened) → HappensLine number happened old new → said ≡ printed (codes "ok") → DoesLine number last text said old new
+  Made : (calls : BusLine) (words : List ℕ) → deed_of text ≡ Ok (Makes calls) → MakesLine number calls words old new → said ≡ printed words → DoesLine number last text said old new
+  HasArmed : (call : ℕ) (event : WorldEvent) (result : Result (Unit {0}) ArmsFull) → deed_of text ≡ Ok (Arms call event) → ArmsLine number call event result old new → said ≡ printed (armed_text result) → DoesLine number last text said old new
+  HasCut : (operation : ℕ) (torn : List ℕ) → deed_of text ≡ Ok (Cuts operation torn) → CutsLine number operation torn old new → said ≡ printed (codes "ok") → DoesLine number last text said old new
+  Traced : deed_of text ≡ Ok Traces → MarksLine number old new → said ≡ printed (trace_text last) → DoesLine number last text said old new
+
+-- a line that wants nothing was passed over
+pub record PassesOver (text said : List ℕ) (old new : WireView) : Type 0 where
+  pub wants : deed_of text ≡ Ok Nothing
+  pub unsaid : said ≡ []
+  pub same : new ≡ old
+
+-- a line was passed over, or done; `own` are the entries of the last line that did something then
+pub data IsDone (number : ℕ) (last : List Entry) (text said : List ℕ) (old new : WireView) (own : List Entry) : Type 0 where
+  WasPassed : PassesOver text said old new → own ≡ last → IsDone number last text said old new own
+  WasDone : DoesLine number last text said old new → new.entries ≡ old.entries ++ own → IsDone number last text said old new own
+
+-- lines were done one after the other, the first of which has this number; `own` are the entries of the last one that did
+-- something then
+abbrev pub AreDone : ℕ → (last : List Entry) → List (List ℕ) → (said : List ℕ) → (old new : WireView) → (own : List Entry) → Type 0
+AreDone number last [] said old new own = (said ≡ []) × (new ≡ old) × (own ≡ last)
+AreDone number last (text ∷ texts) said old new own =
+    (words more : List ℕ) × (middle : WireView) × (here : List Entry) × (said ≡ words ++ more)
+    × IsDone number last text words old middle here × AreDone (number + 1) here texts more middle new own

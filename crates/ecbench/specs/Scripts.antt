@@ -1,13 +1,15 @@
--- How far a script is carried out, by how that ends.
-use Rattle.std.specs.Prelude.{◌≡◌, ◌≤◌, ◌⊎◌, ℕ, ◌+◌, List, [], ◌∷◌, ◌++◌, length, Option, IfSome}
+-- A script that was carried out, as far as it was.
+use Rattle.std.specs.Prelude.{◌≡◌, ◌⊎◌, ℕ, ◌+◌, ◌≤◌, List, [], ◌∷◌, ◌++◌, length, count_by, Option, IfSome}
 use Rattle.ec_model.specs.declared.event.Entry.{Entry}
-use Rattle.ec_model.specs.declared.event.Entry.TheVariants.{Mark}
+use Rattle.ec_wire.specs.Calls.{WireView}
 use Rattle.line_reader.specs.Lines.{most_bytes, lines_of, ended_lines, script_lines}
 use Rattle.line_reader.specs.Taking.{Takes}
 use Rattle.ectool_lines.specs.Running.{Appends, AppendsFront}
 use Rattle.ecbench.specs.declared.run.Exit.{Exit}
 use Rattle.ecbench.specs.declared.run.Exit.TheVariants.{Done, BadLine, SourceFault, SinkFault, NoMemory, ScriptTooLong}
-use Rattle.ecbench.specs.Lines.{Life, AreDone, DoesDeed, IsFaulty}
+use Rattle.ecbench.specs.Lines.{AreDone, DoesLine, MarksLine, IsFaulty}
+use Rattle.ecbench.specs.Cutting.{CutsAlong, arms_cut}
+use Rattle.ecbench.specs.Playing.{PlaysLines}
 
 -- the script is all that a source had, where it tells that, and begins with what was taken from it
 pub record IsScript (script taken : List ℕ) (left rest : Option (List ℕ)) : Type 0 where
@@ -28,13 +30,14 @@ pub record IsLong (script : List ℕ) (left rest : Option (List ℕ)) : Type 0 w
   pub is_script : IsScript script taken left rest
   pub long : length taken ≡ most_bytes + 1
 
--- these lines were done, and what they print was printed
-pub record Plays {State : Type 0} (life : Life State)
-    (old : State) (lines : List (List ℕ)) (entries : List Entry) (before after : Option (List ℕ)) : Type 0 where
+-- these lines were done, and what they print was printed; how often power was lost in them; and the calls that they are were played
+pub record Plays (last : List Entry) (lines : List (List ℕ)) (old new : WireView) (before after : Option (List ℕ)) : Type 0 where
   pub text : List ℕ
-  pub new : State
-  pub done : AreDone life 1 old lines entries text new
+  pub own : List Entry
+  pub done : AreDone 1 last lines text old new own
   pub printed : Appends text before after
+  pub cuts : CutsAlong (count_by arms_cut lines) old new
+  pub played : PlaysLines lines old new
 
 -- in the front of what was taken just these lines end, and at most 4,097 bytes are behind it: the one that ends the next line,
 -- and 4,096 that wait
@@ -52,49 +55,43 @@ pub record IsLine (script taken : List ℕ) (lines : List (List ℕ)) (line : Li
   pub soon : ReadsNoFurther lines taken
 
 -- the first line that is outside the grammar: those before it were done
-pub record StopsAtFault {State : Type 0} (life : Life State) (old : State)
-    (number : ℕ) (script taken line : List ℕ) (lines : List (List ℕ)) (entries : List Entry) (before after : Option (List ℕ)) : Type 0 where
+pub record StopsAtFault (last : List Entry) (number : ℕ) (script taken line : List ℕ) (lines : List (List ℕ)) (old new : WireView) (before after : Option (List ℕ)) : Type 0 where
   pub is_line : IsLine script taken lines line
   pub number_is : number ≡ length lines + 1
-  pub plays : Plays life old lines entries before after
+  pub plays : Plays last lines old new before after
 
 -- the sink failed: the lines before this one were done, it was carried out, and a front of its text was printed
-pub record StopsInText {State : Type 0} (life : Life State) (old : State)
-    (lines : List (List ℕ)) (line : List ℕ) (entries : List Entry) (before after : Option (List ℕ)) : Type 0 where
-  pub first : List Entry
-  pub last : List Entry
+pub record StopsInText (last : List Entry) (lines : List (List ℕ)) (line : List ℕ) (old new : WireView) (before after : Option (List ℕ)) : Type 0 where
+  pub middle : WireView
   pub between : Option (List ℕ)
   pub text : List ℕ
-  pub new : State
-  pub entries_are : entries ≡ first ++ last
-  pub plays : Plays life old lines first before between
-  pub does : DoesDeed life (length lines + 1) plays.new line last text new
+  pub plays : Plays last lines old middle before between
+  pub does : DoesLine (length lines + 1) plays.own line text middle new
   pub printed : AppendsFront text between after
+  pub cuts : CutsAlong (count_by arms_cut (lines ++ line ∷ [])) old new
+  pub played : PlaysLines (lines ++ line ∷ []) old new
 
 -- memory was refused for this line: the lines before it were done, and of it there is at most its mark
-pub record StopsBefore {State : Type 0} (life : Life State) (old : State)
-    (lines : List (List ℕ)) (entries : List Entry) (before after : Option (List ℕ)) : Type 0 where
-  pub first : List Entry
-  pub last : List Entry
-  pub entries_are : entries ≡ first ++ last
-  pub marked : (last ≡ []) ⊎ (last ≡ Mark (length lines + 1) ∷ [])
-  pub plays : Plays life old lines first before after
+pub record StopsBefore (last : List Entry) (lines : List (List ℕ)) (old new : WireView) (before after : Option (List ℕ)) : Type 0 where
+  pub middle : WireView
+  pub plays : Plays last lines old middle before after
+  pub marked : (new ≡ middle) ⊎ MarksLine (length lines + 1) middle new
 
--- what a controller that was powered on did with the script of a source, by how that ended
-abbrev pub PlaysUpTo : {State : Type 0} → Life State → State → Exit → List Entry → (left rest before after : Option (List ℕ)) → Type 0
-PlaysUpTo life old Done entries left rest before after =
-    (script : List ℕ) × IsWhole script left rest × Plays life old (lines_of script) entries before after
-PlaysUpTo life old (BadLine number reason) entries left rest before after =
+-- what was done on a bench with the script of a source, by how that ended; `last` are the entries before it
+abbrev pub PlaysUpTo : (last : List Entry) → Exit → (old new : WireView) → (left rest before after : Option (List ℕ)) → Type 0
+PlaysUpTo last Done old new left rest before after =
+    (script : List ℕ) × IsWhole script left rest × Plays last (lines_of script) old new before after
+PlaysUpTo last (BadLine number reason) old new left rest before after =
     (script taken line : List ℕ) × (lines : List (List ℕ)) × IsScript script taken left rest × IsFaulty line reason
-    × StopsAtFault life old number script taken line lines entries before after
-PlaysUpTo life old SourceFault entries left rest before after =
-    (taken : List ℕ) × Takes taken left rest × (length taken ≤ most_bytes) × Plays life old (ended_lines taken) entries before after
-PlaysUpTo life old SinkFault entries left rest before after =
+    × StopsAtFault last number script taken line lines old new before after
+PlaysUpTo last SourceFault old new left rest before after =
+    (taken : List ℕ) × Takes taken left rest × (length taken ≤ most_bytes) × Plays last (ended_lines taken) old new before after
+PlaysUpTo last SinkFault old new left rest before after =
     (script taken line : List ℕ) × (lines : List (List ℕ)) × IsScript script taken left rest × IsLine script taken lines line
-    × StopsInText life old lines line entries before after
-PlaysUpTo life old NoMemory entries left rest before after =
+    × StopsInText last lines line old new before after
+PlaysUpTo last NoMemory old new left rest before after =
     (script taken line : List ℕ) × (lines : List (List ℕ)) × IsScript script taken left rest × IsLine script taken lines line
-    × StopsBefore life old lines entries before after
-PlaysUpTo life old ScriptTooLong entries left rest before after =
-    (script : List ℕ) × IsLong script left rest × Plays life old (script_lines script) entries before after
-PlaysUpTo life old other entries left rest before after = ⊥
+    × StopsBefore last lines old new before after
+PlaysUpTo last ScriptTooLong old new left rest before after =
+    (script : List ℕ) × IsLong script left rest × Plays last (script_lines script) old new before after
+PlaysUpTo last other old new left rest before after = ⊥

@@ -1,33 +1,7 @@
 // Whole runs by the words of the command line: the three buses, the pin, and words outside the grammar.
-use crate::run::{Exit, run};
-use bench_io::{MemSink, MemSource};
-use bench_words::Word;
-use flash_dev::MemFlash;
-use std::process::Abort;
+use crate::run::Exit;
+use crate::testing::plays_by;
 use std::test::Fail;
-
-const ERASED: [u8; 65536] = [0xFF; 65536];
-
-// Runs a script on an erased flash in memory, by these words, and looks at the exit and at the text.
-fn plays_by<R: Abort + AllocGlobal>(
-    rt: &R,
-    words: &[&[u8]],
-    script: &[u8],
-    exit: Exit,
-    text: &[u8],
-) -> Result<(), Fail> {
-    let mut list = Vec::new(rt.alloc());
-    for word in words {
-        list.push(Word::new(rt.alloc(), word)?)?;
-    }
-    let flash = MemFlash::new(rt.alloc(), &ERASED, &[])?;
-    let mut source = MemSource::new(rt.alloc(), script, &[])?;
-    let mut sink = MemSink::new(rt.alloc(), 9000, &[])?;
-    let ended = run(rt.alloc(), list.as_slice(), flash, &mut source, &mut sink);
-    assert_eq!(rt; ended.exit, exit);
-    assert_eq!(rt; sink.bytes(), text);
-    Ok(())
-}
 
 #[test]
 fn each_bus_greets_and_tells_its_limits(rt: HostRuntime) -> Result<(), Fail> {

@@ -1,12 +1,11 @@
 // The hash by ticks and the two images, in whole runs: the bytes that are read and printed, which no clause counts.
 use crate::run::{Exit, run};
+use crate::testing::ERASED;
 use bench_io::{MemSink, MemSource};
 use bench_words::Word;
 use flash_dev::MemFlash;
 use std::process::Abort;
 use std::test::Fail;
-
-const ERASED: [u8; 65536] = [0xFF; 65536];
 
 // What `start` is long, and each of the 33 ticks behind it.
 const START_LENGTH: usize = 16;

@@ -7,6 +7,9 @@
 #![tactic(auto)]
 
 #[cfg(test)]
+mod arm_tests;
+mod arming;
+#[cfg(test)]
 mod bus_tests;
 mod calling;
 #[cfg(test)]
@@ -16,7 +19,10 @@ mod run;
 mod serving;
 mod telling;
 #[cfg(test)]
+mod testing;
+#[cfg(test)]
 mod tests;
+mod tracing;
 
 use bench_io::{FileFlash, StdSink, StdSource};
 use bench_words::Word;

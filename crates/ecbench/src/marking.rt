@@ -1,5 +1,6 @@
 // The mark of a line in the journal.
 ghost use Rattle.std.specs.Prelude.{◌≤◌, OnOk};
+ghost use Rattle.ec_wire.specs.Calls.{IsAgreed};
 ghost use Rattle.bench_wire.specs.BenchView.{wire_view};
 ghost use Rattle.ecbench.specs.Serving.{BeginsLine};
 
@@ -12,6 +13,7 @@ use flash_dev::FlashDev;
 pub fn begin<B: Bus + Drop, F: FlashDev>(bench: &mut Bench<B, F>, number: u32) -> Result<(), Exit>
     ensures begins { BeginsLine result number (wire_view B.bus bench.old) (wire_view B.bus bench.new) }
     ensures room { OnOk result (1 ≤ bench.new.spare) }
+    ensures agrees { OnOk result (IsAgreed (wire_view B.bus bench.new)) }
 {
     bench.reserve(2)?;
     bench.mark(number);

@@ -1,19 +1,15 @@
 // The top call: a script is carried out on a controller, and what happened is told.
-ghost use Rattle.std.specs.Prelude.{◌≡◌, [], IfSome, IsTrue, count_by};
+ghost use Rattle.std.specs.Prelude.{◌≡◌, [], IsTrue, count_by};
 ghost use Rattle.flash_dev.specs.Counts.{Rose};
-ghost use Rattle.ec_model.specs.Upset.{is_cut_entry};
 ghost use Rattle.ec_wire.specs.Calls.{RoseBy, is_failed_entry};
 ghost use Rattle.flash_dev.specs.Ranges.{is_flash_size};
 ghost use Rattle.ecbench.specs.Endings.{
-  EndsAsSeen,
-  EndsUndisturbed,
-  EndsFollowed,
+  Ends,
   WhereSpelled,
   CarriesScript,
   RunsTo,
   KeepsRo,
   GuardsRun,
-  NothingFailed,
 };
 ghost use Rattle.ecbench.specs.Statuses.{exit_status};
 ghost use Rattle.ecbench.specs.Serving.{exit_of};
@@ -29,7 +25,7 @@ use bus_spi::Spi;
 use ec_core::Ec;
 use ec_types::{BusKind, Why};
 use ec_wire::{Bus, Journal};
-use flash_dev::{FlashDev, Geometry};
+use flash_dev::{CutFlash, FlashDev, Geometry, Tear};
 use line_reader::LineReader;
 use std::alloc::{AllocError, Global};
 use thiserror::Error;
@@ -112,16 +108,17 @@ pub struct Ended<F> {
 
 /// Carries out the script of the source, line by line, on a controller with this flash, which is off at first. The words
 /// name the flash file, the bus, and whether the write-protect pin is asserted at first.
-pub fn run<F: FlashDev, S: Source, K: Sink>(
+pub fn run<F: Tear, S: Source, K: Sink>(
     alloc: Global,
     words: &[Word],
     flash: F,
     source: &mut S,
     sink: &mut K,
 ) -> Ended<F>
-    // What each exit says of the script, the printed bytes and the journal, as the host sees it.
-    ensures ends { EndsAsSeen result.exit words.now (F.seen flash).extent (S.left source.old) (S.left source.new)
-        (K.written sink.old) (K.written sink.new) result.journal.entries }
+    // What each exit says of the words, the flash, the script, the printed bytes and the journal: which lines were done, and
+    // how each of them led from what the bench showed to what it shows then.
+    ensures ends { Ends result.exit words.now (F.seen flash) (F.seen result.flash) (S.left source.old)
+        (S.left source.new) (K.written sink.old) (K.written sink.new) result.journal.entries }
     // The journal is a run of the controller, from the flash as it came to the flash as it is handed back.
     ensures run { WhereSpelled words.now (λ bus pin. RunsTo bus pin result.journal.entries (F.seen flash).held
         (F.seen result.flash).held) }
@@ -132,21 +129,9 @@ pub fn run<F: FlashDev, S: Source, K: Sink>(
     // running, locked where it was guarded: a law of the definitions, of the states that the run of this journal
     // passes.
     ensures guarded { WhereSpelled words.now (λ bus pin. GuardsRun bus pin result.journal.entries (F.seen flash).held) }
-    // At most as many entries failed as the flash counted faults, and at most as many were cut as it counted cuts.
+    // At most as many entries failed as the flash counted faults.
     ensures faults { RoseBy (count_by is_failed_entry result.journal.entries) (F.seen flash).faults
         (F.seen result.flash).faults }
-    ensures cuts { RoseBy (count_by is_cut_entry result.journal.entries) (F.seen flash).cuts
-        (F.seen result.flash).cuts }
-    // Where nothing failed in the flash, and it tells its bytes: the same with each command handled and answered.
-    ensures undisturbed { NothingFailed (F.seen flash) (F.seen result.flash) → IfSome (F.seen flash).held (λ bytes.
-        EndsUndisturbed bytes result.exit words.now (F.seen flash).extent (S.left source.old) (S.left source.new)
-        (K.written sink.old) (K.written sink.new) result.journal.entries) }
-    // The same of each line by itself, whatever befell the controller before it: where nothing disturbs the line, its
-    // commands are handled and answered from the state that it finds; and a command that is not answered has an upset
-    // among its entries.
-    ensures followed { IfSome (F.seen flash).held (λ bytes.
-        EndsFollowed bytes result.exit words.now (F.seen flash).extent (S.left source.old) (S.left source.new)
-        (K.written sink.old) (K.written sink.new) result.journal.entries) }
     // A flash is handed back as it came where the run did not begin.
     ensures bad_words { result.exit ≡ Exit.BadWords → result.flash ≡ flash }
     ensures bad_flash { result.exit ≡ Exit.BadFlash → result.flash ≡ flash }
@@ -166,7 +151,7 @@ pub fn run<F: FlashDev, S: Source, K: Sink>(
 }
 
 // Carries out the script on a controller on this bus.
-fn carry_by<F: FlashDev, S: Source, K: Sink>(
+fn carry_by<F: Tear, S: Source, K: Sink>(
     alloc: Global,
     flash: F,
     geometry: Geometry,
@@ -190,7 +175,7 @@ fn carry_by<F: FlashDev, S: Source, K: Sink>(
 }
 
 // The same, on a bus that is known.
-fn carry_on<B: Bus + Drop, F: FlashDev, S: Source, K: Sink>(
+fn carry_on<B: Bus + Drop, F: Tear, S: Source, K: Sink>(
     alloc: Global,
     flash: F,
     geometry: Geometry,
@@ -205,13 +190,14 @@ fn carry_on<B: Bus + Drop, F: FlashDev, S: Source, K: Sink>(
     ensures source_fault { result.exit ≡ Exit.SourceFault → Rose (S.faults source.old) (S.faults source.new) }
     ensures sink_fault { result.exit ≡ Exit.SinkFault → Rose (K.faults sink.old) (K.faults sink.new) }
 {
-    let mut bench: Bench<B, F> = Bench::new(alloc, Ec::new(flash, geometry, pin));
+    let ec = Ec::new(CutFlash::new(flash), geometry, pin);
+    let mut bench: Bench<B, CutFlash<F>> = Bench::new(alloc, ec);
     let mut reader = LineReader::new();
     let exit = drive(&mut bench, &mut reader, source, sink);
     let (flash, journal) = bench.finish();
     Ended {
         exit,
-        flash,
+        flash: flash.into_inner(),
         journal,
         reader,
     }

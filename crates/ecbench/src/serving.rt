@@ -1,23 +1,28 @@
 // A script, served line by line.
-ghost use Rattle.std.specs.Prelude.{◌≡◌, ◌≤◌, ◌↔◌, false, IsTrue, IsFalse};
+ghost use Rattle.std.specs.Prelude.{◌≡◌, ◌≤◌, ◌↔◌, false, drop, length, nat_lt, if◌then◌else◌, IsTrue, IsFalse};
 ghost use Rattle.flash_dev.specs.Counts.{Rose};
 ghost use Rattle.bench_wire.specs.BenchView.{wire_view};
 ghost use Rattle.bench_wire.specs.Adding.{is_byte};
+ghost use Rattle.std.specs.Prelude.{List};
+ghost use Rattle.ec_model.specs.declared.event.Entry.{Entry};
 ghost use Rattle.script_lines.specs.Lines.{line_of};
 ghost use Rattle.script_words.specs.Faults.{kind_of};
 ghost use Rattle.ecbench.specs.declared.run.Exit.TheVariants.{BadLine};
-ghost use Rattle.ecbench.specs.Serving.{fresh_reader, Drives, Serves, PowersOn, ServesLine, ServesEvent, exit_at};
+ghost use Rattle.ecbench.specs.Endings.{PowersOn};
+ghost use Rattle.ecbench.specs.Serving.{fresh_reader, Drives, Serves, ServesLine, ServesEvent, exit_at};
 
+use crate::arming::{MOST_TORN, serve_at, serve_cut};
 use crate::calling::serve_calls;
 use crate::marking::begin;
 use crate::run::Exit;
+use crate::tracing::serve_trace;
 use bench_io::{Sink, Source, print};
 use bench_wire::Bench;
 use ec_model::WorldEvent;
 use ec_types::Why;
 use ec_wire::{Bus, Wire};
 use ectool_lines::{Buffers, parse_checked, run};
-use flash_dev::{Failed, FlashDev};
+use flash_dev::{CutFlash, Failed, FlashDev, Tear};
 use line_reader::{LineReader, Next};
 use script_lines::Line;
 use script_words::Fault;
@@ -26,8 +31,8 @@ use script_words::Fault;
 const MOST_LINES: u32 = 16_777_217;
 
 /// Makes room in the journal for the power-on, and serves the script.
-pub fn drive<B: Bus + Drop, F: FlashDev, S: Source, K: Sink>(
-    bench: &mut Bench<B, F>,
+pub fn drive<B: Bus + Drop, F: Tear, S: Source, K: Sink>(
+    bench: &mut Bench<B, CutFlash<F>>,
     reader: &mut LineReader,
     source: &mut S,
     sink: &mut K,
@@ -57,8 +62,8 @@ fn power_on<B: Bus + Drop, F: FlashDev>(bench: &mut Bench<B, F>)
 }
 
 // Reads the script line by line, and carries out each line before the next one is read.
-fn serve<B: Bus + Drop, F: FlashDev, S: Source, K: Sink>(
-    bench: &mut Bench<B, F>,
+fn serve<B: Bus + Drop, F: Tear, S: Source, K: Sink>(
+    bench: &mut Bench<B, CutFlash<F>>,
     reader: &mut LineReader,
     source: &mut S,
     sink: &mut K,
@@ -69,7 +74,11 @@ fn serve<B: Bus + Drop, F: FlashDev, S: Source, K: Sink>(
     ensures source_fault { result ≡ Exit.SourceFault → Rose (S.faults source.old) (S.faults source.new) }
     ensures sink_fault { result ≡ Exit.SinkFault → Rose (K.faults sink.old) (K.faults sink.new) }
 {
-    let mut buffers = Buffers::new();
+    let mut room = Room {
+        buffers: Buffers::new(),
+        torn: [0; MOST_TORN],
+    };
+    let mut since = 0;
     for number in 1..=MOST_LINES {
         let next = match reader.next(source) {
             Ok(next) => next,
@@ -78,14 +87,23 @@ fn serve<B: Bus + Drop, F: FlashDev, S: Source, K: Sink>(
         if let Some(exit) = exit_at(next, number) {
             return exit;
         }
-        if let Err(exit) = serve_line(bench, number, reader.line(), &mut buffers, sink) {
+        let start = bench.journal().len();
+        if let Err(exit) = serve_line(bench, number, since, reader.line(), &mut room, sink) {
             return exit;
         }
+        since = since_line(since, start, bench.journal().len());
         if is_last(next) {
             return Exit::Done;
         }
     }
     unreachable!()
+}
+
+// Where the entries of the last line begin that did something, once a line was read: each that does something is marked.
+fn since_line(since: usize, start: usize, end: usize) -> usize
+    ensures { result ≡ (if nat_lt start end then start else since) }
+{
+    if start < end { start } else { since }
 }
 
 // Whether a line is the last one, which the end of the script ends.
@@ -110,26 +128,41 @@ fn exit_at(next: Next, number: u32) -> Option<Exit>
     }
 }
 
-// Does a line, passes over one that does nothing, or refuses one that is outside the grammar.
-fn serve_line<B: Bus + Drop, F: FlashDev, K: Sink>(
-    bench: &mut Bench<B, F>,
+/// The buffers that all lines use.
+#[derive(Drop)]
+struct Room {
+    buffers: Buffers,
+    torn: [u8; MOST_TORN],
+}
+
+// Does a line, passes over one that does nothing, or refuses one that is outside the grammar. The last line before that did
+// something has the entries from `since` on.
+fn serve_line<B: Bus + Drop, F: Tear, K: Sink>(
+    bench: &mut Bench<B, CutFlash<F>>,
     number: u32,
+    since: usize,
     line: &[u8],
-    buffers: &mut Buffers,
+    room: &mut Room,
     sink: &mut K,
 ) -> Result<(), Exit>
-    ensures serves { ServesLine result number line.now (wire_view B.bus bench.old) (wire_view B.bus bench.new)
-        (K.written sink.old) (K.written sink.new) }
+    requires { since ≤ length bench.old.entries }
+    ensures serves { ServesLine result number (drop since bench.old.entries) line.now (wire_view B.bus bench.old)
+        (wire_view B.bus bench.new) (K.written sink.old) (K.written sink.new) }
     ensures sink_fault { result ≡ Err Exit.SinkFault → Rose (K.faults sink.old) (K.faults sink.new) }
     ensures later { K.faults sink.old ≤ K.faults sink.new }
 {
     match script_lines::parse(line) {
         Ok(Line::Nothing) => Ok(()),
-        Ok(Line::Tool) => serve_tool(bench, number, line, buffers, sink),
+        Ok(Line::Tool) => serve_tool(bench, number, line, &mut room.buffers, sink),
         Ok(Line::Pin { on }) => serve_event(bench, number, WorldEvent::Pin { on }, sink),
         Ok(Line::Power { on }) => serve_event(bench, number, WorldEvent::Power { on }, sink),
         Ok(Line::Reset { cause }) => serve_event(bench, number, WorldEvent::Reset { cause }, sink),
-        Ok(Line::Bus(calls)) => serve_calls(bench, number, &calls, &mut buffers.text, sink),
+        Ok(Line::Bus(calls)) => serve_calls(bench, number, &calls, &mut room.buffers.text, sink),
+        Ok(Line::At { call, event }) => serve_at(bench, number, call, event, sink),
+        Ok(Line::Cut { operation, torn }) => {
+            serve_cut(bench, number, operation, &torn, &mut room.torn, sink)
+        }
+        Ok(Line::Trace) => serve_trace(bench, number, since, &mut room.buffers.text, sink),
         Err(fault) => Err(bad_line(number, fault)),
     }
 }
@@ -153,8 +186,8 @@ fn serve_tool<B: Bus + Drop, F: FlashDev, K: Sink>(
     sink: &mut K,
 ) -> Result<(), Exit>
     requires { line_of line.now ≡ Ok Line.Tool }
-    ensures serves { ServesLine result number line.now (wire_view B.bus bench.old) (wire_view B.bus bench.new)
-        (K.written sink.old) (K.written sink.new) }
+    ensures serves { (last : List Entry) → ServesLine result number last line.now (wire_view B.bus bench.old)
+        (wire_view B.bus bench.new) (K.written sink.old) (K.written sink.new) }
     ensures sink_fault { result ≡ Err Exit.SinkFault → Rose (K.faults sink.old) (K.faults sink.new) }
     ensures later { K.faults sink.old ≤ K.faults sink.new }
 {

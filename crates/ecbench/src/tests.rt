@@ -4,15 +4,14 @@ ghost use Rattle.flash_dev.specs.Told.{untold_is_whole};
 
 use crate::run::{Exit, run};
 use crate::telling::{FaultyLine, FaultyWords, fault_of};
+use crate::testing::{ERASED, plays, plays_whole, store};
 use bench_io::{MemSink, MemSource};
 use bench_words::Word;
 use ec_model::{Access, Entry, Event};
 use ec_types::Why;
-use flash_dev::{DevErr, Failed, FlashDev, MemFlash};
+use flash_dev::{DevErr, Failed, FlashDev, MemFlash, Tear};
 use std::process::Abort;
 use std::test::Fail;
-
-const ERASED: [u8; 65536] = [0xFF; 65536];
 
 const GREETING: &[u8] = b"EC says hello!\n";
 
@@ -60,40 +59,10 @@ impl FlashDev for Dying {
     ghost told_whole = { λ flash bytes same. untold_is_whole 65536 bytes same };
 }
 
-// Puts bytes over those of a flash of 64 KiB, where it stores its protection.
-fn store<R: Abort>(rt: &R, flash: &mut [u8], stored: &[u8; 8]) {
-    assert!(rt; flash.len() >= 0x7008);
-    flash[0x7000..0x7008].copy_from_slice(stored);
-}
-
-// Runs a script over this flash, where these calls of the source and of the sink fail, and looks at the exit and at the
-// text. Answers how many entries the journal has.
-fn plays<R: Abort + AllocGlobal, F: FlashDev + Drop>(
-    rt: &R,
-    flash: F,
-    script: &[u8],
-    fails: (&[u32], &[u32]),
-    want: (Exit, &[u8]),
-) -> Result<usize, Fail> {
-    let mut source = MemSource::new(rt.alloc(), script, fails.0)?;
-    let mut sink = MemSink::new(rt.alloc(), 9000, fails.1)?;
-    let word = Word::new(rt.alloc(), b"flash")?;
-    let ended = run(rt.alloc(), &[word], flash, &mut source, &mut sink);
-    let size = script.len();
-    assert_eq!(rt; ended.exit, want.0, "script of {size} bytes");
-    assert_eq!(rt; sink.bytes(), want.1, "script of {size} bytes");
-    Ok(ended.journal.len())
-}
-
-// The same over an erased flash in memory, where nothing fails.
-fn plays_whole<R: Abort + AllocGlobal>(
-    rt: &R,
-    script: &[u8],
-    exit: Exit,
-    text: &[u8],
-) -> Result<usize, Fail> {
-    let flash = MemFlash::new(rt.alloc(), &ERASED, &[])?;
-    plays(rt, flash, script, (&[], &[]), (exit, text))
+impl Tear for Dying {
+    fn poke(&mut self, _at: u32, _bytes: &[u8]) -> Result<(), Failed> {
+        Ok(())
+    }
 }
 
 #[test]

@@ -3,14 +3,16 @@ use Rattle.std.specs.Prelude.{ℕ, ◌+◌, ◌≤◌, Bool, true, false, List, 
 use Rattle.std.specs.Option.{ok_or}
 use Rattle.std.specs.Str.{bytes_eq}
 use Rattle.ec_types.specs.declared.why.Why.{Why}
-use Rattle.ec_types.specs.declared.why.Why.TheVariants.{Word, Number}
+use Rattle.ec_types.specs.declared.why.Why.TheVariants.{Word, Count, Number}
+use Rattle.ec_model.specs.declared.event.WorldEvent.{WorldEvent}
+use Rattle.ec_model.specs.declared.event.WorldEvent.TheVariants as world
 use Rattle.ec_model.specs.declared.event.WorldReset.{WorldReset}
 use Rattle.ec_model.specs.declared.event.WorldReset.TheVariants.{Pin as PinReset, Watchdog}
 use Rattle.script_words.specs.Words.{words_of}
 use Rattle.script_words.specs.Lines.{checked, does_nothing}
-use Rattle.script_words.specs.Forms.{◌>>=◌, one_word, two_words, with_one, number_to, count_to, hex_to}
+use Rattle.script_words.specs.Forms.{◌>>=◌, no_words, one_word, two_words, three_words, alone, with_one, number_to, count_to, hex_to}
 use Rattle.script_lines.specs.declared.line.Line.{Line}
-use Rattle.script_lines.specs.declared.line.Line.TheVariants.{Nothing, Tool, Pin, Power, Reset, Bus}
+use Rattle.script_lines.specs.declared.line.Line.TheVariants.{Nothing, Tool, Pin, Power, Reset, Cut, At, Trace, Bus}
 use Rattle.script_lines.specs.declared.line.BusLine.{BusLine}
 use Rattle.script_lines.specs.declared.line.BusLine.TheVariants.{Tick, PortsOut, PortsIn, I2cWrite, I2cRead, SpiSelect, SpiDeselect, SpiBytes}
 
@@ -66,6 +68,31 @@ spi_to word =
 abbrev pub spi_by : List (List ℕ) → Result BusLine Why
 spi_by words = one_word words >>= spi_to
 
+-- a cut behind the word of its operation: no bytes, or at most 4,096
+abbrev pub cut_behind : List ℕ → List (List ℕ) → Result Line Why
+cut_behind operation [] = number_to 0xFFFFFFFF operation >>= λ number. Ok (Cut number [])
+cut_behind operation (bytes ∷ words) =
+    no_words words >>= λ _. number_to 0xFFFFFFFF operation >>= λ number. hex_to 4096 bytes >>= λ torn. Ok (Cut number torn)
+
+-- a cut, by one word or two
+abbrev pub cut_by : List (List ℕ) → Result Line Why
+cut_by [] = Err Count
+cut_by (operation ∷ words) = cut_behind operation words
+
+-- an event of the world, by its name and what more it says
+abbrev pub event_to : List ℕ → List ℕ → Result WorldEvent Why
+event_to kind detail =
+    if bytes_eq kind (codes "pin") then (switch_to detail >>= λ on. Ok (world.Pin on)) else
+    if bytes_eq kind (codes "power") then (switch_to detail >>= λ on. Ok (world.Power on)) else
+    if bytes_eq kind (codes "reset") then (cause_to detail >>= λ cause. Ok (world.Reset cause)) else
+    if bytes_eq kind (codes "byte") then (number_to 255 detail >>= λ byte. Ok (world.Byte byte)) else
+    Err Word
+
+-- an event that is armed: before which call, and which it is
+abbrev pub at_by : List (List ℕ) → Result Line Why
+at_by words =
+    three_words words >>= λ all. count_to 0xFFFFFFFF all.0 >>= λ call. event_to all.1 all.2 >>= λ event. Ok (At call event)
+
 -- a line by its words: the first one, how many stand behind it, and what each of these is
 abbrev pub line_by : List (List ℕ) → Result Line Why
 line_by [] = Ok Tool
@@ -74,11 +101,14 @@ line_by (first ∷ words) =
     if bytes_eq first (codes "power") then (switch_by words >>= λ on. Ok (Power on)) else
     if bytes_eq first (codes "reset") then with_one cause_to Reset words else
     if bytes_eq first (codes "tick") then (with_one (count_to 100000) Tick words >>= λ calls. Ok (Bus calls)) else
+    if bytes_eq first (codes "cut") then cut_by words else
+    if bytes_eq first (codes "at") then at_by words else
     if bytes_eq first (codes "out") then (out_by words >>= λ calls. Ok (Bus calls)) else
     if bytes_eq first (codes "in") then (in_by words >>= λ calls. Ok (Bus calls)) else
     if bytes_eq first (codes "i2cw") then (with_one (hex_to 8192) I2cWrite words >>= λ calls. Ok (Bus calls)) else
     if bytes_eq first (codes "i2cr") then (with_one (count_to 4096) I2cRead words >>= λ calls. Ok (Bus calls)) else
     if bytes_eq first (codes "spi") then (spi_by words >>= λ calls. Ok (Bus calls)) else
+    if bytes_eq first (codes "trace") then alone Trace words else
     Ok Tool
 
 -- a line, or its first fault
@@ -98,4 +128,6 @@ IsInRange other = Unit {0}
 -- the same of any line
 abbrev pub IsLineInRange : Line → Type 0
 IsLineInRange (Bus calls) = IsInRange calls
+IsLineInRange (Cut operation torn) = length torn ≤ 4096
+IsLineInRange (At call event) = 1 ≤ call
 IsLineInRange other = Unit {0}

@@ -3,13 +3,32 @@ ghost use Rattle.std.specs.Prelude.{◌≡◌, ◌≤◌, ◌∷◌, length, IfO
 ghost use Rattle.script_words.specs.Words.{words_of};
 ghost use Rattle.script_words.specs.Faults.{by_kind};
 ghost use Rattle.script_words.specs.Forms.{with_one, count_to, hex_to};
-ghost use Rattle.script_lines.specs.Lines.{switch_by, switch_named, cause_to, cause_named, ports_out, out_by, ports_in, in_by, spi_by, line_of, line_by, IsInRange, IsLineInRange};
+ghost use Rattle.script_lines.specs.Lines.{
+  switch_by,
+  switch_to,
+  switch_named,
+  cause_to,
+  cause_named,
+  ports_out,
+  out_by,
+  ports_in,
+  in_by,
+  spi_by,
+  cut_by,
+  cut_behind,
+  event_to,
+  at_by,
+  line_of,
+  line_by,
+  IsInRange,
+  IsLineInRange,
+};
 
 use crate::{BusLine, Line};
-use ec_model::WorldReset;
+use ec_model::{WorldEvent, WorldReset};
 use script_words::{
-    Fault, HexBytes, Wanted, check_line, count_to, is_word, next_word, number_to, one_word,
-    two_words,
+    Fault, HexBytes, Wanted, check_line, count_to, is_word, next_word, no_words, none_or,
+    number_to, one_word, three_words, two_words,
 };
 
 // The most bytes that a word of a line spells.
@@ -17,6 +36,9 @@ const MOST_BYTES: usize = 8192;
 
 // The most bytes that a line reads.
 const MOST_READS: u32 = 4096;
+
+// The most bytes that a cut leaves torn.
+const MOST_TORN: usize = 4096;
 
 /// What a line without its line feed says, or the first thing that is wrong with it: its length, its bytes, then, where its
 /// first word is one of these lines', how many words there are behind it, and at last the first word from the left that is
@@ -48,6 +70,10 @@ fn by_words<'a>(first: &[u8], rest: &'a [u8]) -> Result<Line<'a>, Fault>
         reset(rest)
     } else if is_word(first, b"tick") {
         Ok(Line::Bus(tick(rest)?))
+    } else if is_word(first, b"cut") {
+        cut(rest)
+    } else if is_word(first, b"at") {
+        at(rest)
     } else if is_word(first, b"out") {
         Ok(Line::Bus(ports_out(rest)?))
     } else if is_word(first, b"in") {
@@ -58,6 +84,9 @@ fn by_words<'a>(first: &[u8], rest: &'a [u8]) -> Result<Line<'a>, Fault>
         Ok(Line::Bus(i2c_read(rest)?))
     } else if is_word(first, b"spi") {
         Ok(Line::Bus(spi(rest)?))
+    } else if is_word(first, b"trace") {
+        no_words(rest)?;
+        Ok(Line::Trace)
     } else {
         Ok(Line::Tool)
     }
@@ -93,8 +122,21 @@ fn cause_named(word: &[u8]) -> Option<WorldReset>
 fn switch(words: &[u8]) -> Result<bool, Fault>
     ensures { by_kind result ≡ switch_by (words_of words.now) }
 {
-    let word = one_word(words)?;
-    switch_named(word).ok_or(Fault::of_word(2, Wanted::Switch))
+    switch_at(2, one_word(words)?)
+}
+
+// The word at this place of the line, which says on or off.
+fn switch_at(place: u8, word: &[u8]) -> Result<bool, Fault>
+    ensures { by_kind result ≡ switch_to word.now }
+{
+    switch_named(word).ok_or(Fault::of_word(place, Wanted::Switch))
+}
+
+// The word at this place of the line, which names the cause of a reset.
+fn cause_at(place: u8, word: &[u8]) -> Result<WorldReset, Fault>
+    ensures { by_kind result ≡ cause_to word.now }
+{
+    cause_named(word).ok_or(Fault::of_word(place, Wanted::Cause))
 }
 
 fn reset(words: &[u8]) -> Result<Line<'_>, Fault>
@@ -102,7 +144,7 @@ fn reset(words: &[u8]) -> Result<Line<'_>, Fault>
     ensures within { IfOk result IsLineInRange }
 {
     let word = one_word(words)?;
-    let cause = cause_named(word).ok_or(Fault::of_word(2, Wanted::Cause))?;
+    let cause = cause_at(2, word)?;
     Ok(Line::Reset { cause })
 }
 
@@ -114,6 +156,73 @@ fn tick(words: &[u8]) -> Result<BusLine<'_>, Fault>
     Ok(BusLine::Tick {
         count: count_to(2, count, 100_000)?,
     })
+}
+
+// `cut N` and `cut N HEX`.
+fn cut(words: &[u8]) -> Result<Line<'_>, Fault>
+    ensures line { by_kind result ≡ cut_by (words_of words.now) }
+    ensures within { IfOk result IsLineInRange }
+{
+    let count = Fault::of_line(Wanted::CutWords);
+    let (operation, rest) = next_word(words).ok_or(count)?;
+    cut_behind(operation, rest)
+}
+
+// `cut` behind the word of its operation.
+fn cut_behind<'a>(operation: &[u8], words: &'a [u8]) -> Result<Line<'a>, Fault>
+    ensures line { by_kind result ≡ cut_behind operation.now (words_of words.now) }
+    ensures within { IfOk result IsLineInRange }
+{
+    match next_word(words) {
+        None => Ok(Line::Cut {
+            operation: number_to(2, operation, u32::MAX)?,
+            torn: HexBytes::none(),
+        }),
+        Some((bytes, rest)) => {
+            none_or(rest, Fault::of_line(Wanted::CutWords))?;
+            Ok(Line::Cut {
+                operation: number_to(2, operation, u32::MAX)?,
+                torn: HexBytes::of_word(3, bytes, MOST_TORN)?,
+            })
+        }
+    }
+}
+
+// `at` with its event.
+fn at(words: &[u8]) -> Result<Line<'_>, Fault>
+    ensures line { by_kind result ≡ at_by (words_of words.now) }
+    ensures within { IfOk result IsLineInRange }
+{
+    let (call, kind, detail) = three_words(words)?;
+    Ok(Line::At {
+        call: count_to(2, call, u32::MAX)?,
+        event: event(kind, detail)?,
+    })
+}
+
+// The event of the world that two words name.
+fn event(kind: &[u8], detail: &[u8]) -> Result<WorldEvent, Fault>
+    ensures { by_kind result ≡ event_to kind.now detail.now }
+{
+    if is_word(kind, b"pin") {
+        Ok(WorldEvent::Pin {
+            on: switch_at(4, detail)?,
+        })
+    } else if is_word(kind, b"power") {
+        Ok(WorldEvent::Power {
+            on: switch_at(4, detail)?,
+        })
+    } else if is_word(kind, b"reset") {
+        Ok(WorldEvent::Reset {
+            cause: cause_at(4, detail)?,
+        })
+    } else if is_word(kind, b"byte") {
+        Ok(WorldEvent::Byte {
+            byte: number_to(4, detail, 255)? as u8,
+        })
+    } else {
+        Err(Fault::of_word(3, Wanted::WorldEvent))
+    }
 }
 
 fn ports_out(words: &[u8]) -> Result<BusLine<'_>, Fault>
@@ -180,8 +289,7 @@ fn spi(words: &[u8]) -> Result<BusLine<'_>, Fault>
     if is_word(word, b"deselect") {
         return Ok(BusLine::SpiDeselect);
     }
-    match HexBytes::of_word(2, word, MOST_BYTES) {
-        Ok(bytes) => Ok(BusLine::SpiBytes { bytes }),
-        Err(_) => Err(Fault::of_word(2, Wanted::SpiBytes { most: MOST_BYTES })),
-    }
+    let wanted = Fault::of_word(2, Wanted::SpiBytes { most: MOST_BYTES });
+    let bytes = HexBytes::of(word, MOST_BYTES).ok_or(wanted)?;
+    Ok(BusLine::SpiBytes { bytes })
 }

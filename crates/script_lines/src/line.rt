@@ -1,5 +1,5 @@
 // What a line says.
-use ec_model::WorldReset;
+use ec_model::{WorldEvent, WorldReset};
 use script_words::HexBytes;
 
 /// What a line of a script says. Bytes stand in the line.
@@ -23,6 +23,21 @@ pub enum Line<'a> {
     Reset {
         cause: WorldReset,
     },
+    /// `cut N`, `cut N HEX`: power is to be lost in a flash operation to come.
+    Cut {
+        /// In which operation from now, counted from 1; 0 disarms the cut.
+        operation: u32,
+        /// What it leaves of that operation's first bytes, at most 4,096 of them.
+        torn: HexBytes<'a>,
+    },
+    /// `at N pin V`, `at N power V`, `at N reset C`, `at N byte B`: an event of the world is to fall before a call to come.
+    At {
+        /// Before which access or wait from now, counted from 1.
+        call: u32,
+        event: WorldEvent,
+    },
+    /// `trace`: the entries of the line before that did something are counted.
+    Trace,
     /// It calls the bus itself.
     Bus(BusLine<'a>),
 }

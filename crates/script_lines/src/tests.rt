@@ -1,6 +1,6 @@
 // Lines of scripts, and what is wrong with others.
 use crate::{BusLine, Line, parse};
-use ec_model::WorldReset;
+use ec_model::{WorldEvent, WorldReset};
 use ec_types::Why;
 use script_words::{Fault, Wanted};
 
@@ -91,6 +91,39 @@ fn lines_of_i2c_and_spi_are_read(rt: HostRuntime) {
 }
 
 #[test]
+fn what_is_armed_is_read(rt: HostRuntime) {
+    for (line, want) in [(b"cut 0".as_slice(), (0, 0)), (b"cut 3 a5A5", (3, 2))] {
+        match parse(line) {
+            Ok(Line::Cut { operation, torn }) => assert_eq!(rt; (operation, torn.len()), want),
+            _ => assert!(rt; false),
+        }
+    }
+    for (line, want) in [
+        (
+            b"at 1 pin off".as_slice(),
+            (1, WorldEvent::Pin { on: false }),
+        ),
+        (b"at 2 power on", (2, WorldEvent::Power { on: true })),
+        (
+            b"at 9 reset watchdog",
+            (
+                9,
+                WorldEvent::Reset {
+                    cause: WorldReset::Watchdog,
+                },
+            ),
+        ),
+        (b"at 16 byte 0xfa", (16, WorldEvent::Byte { byte: 0xFA })),
+    ] {
+        match parse(line) {
+            Ok(Line::At { call, event }) => assert_eq!(rt; (call, event), want),
+            _ => assert!(rt; false),
+        }
+    }
+    assert!(rt; matches!(parse(b"trace"), Ok(Line::Trace)));
+}
+
+#[test]
 fn the_first_fault_counts(rt: HostRuntime) {
     for (line, want) in [
         (b"pin".as_slice(), Why::Count),
@@ -101,6 +134,17 @@ fn the_first_fault_counts(rt: HostRuntime) {
         (b"tick", Why::Count),
         (b"tick 0", Why::Number),
         (b"tick 100001", Why::Number),
+        (b"cut", Why::Count),
+        (b"cut x 0 0", Why::Count),
+        (b"cut x 0", Why::Number),
+        (b"cut 1 0", Why::Hex),
+        (b"at 0 pin", Why::Count),
+        (b"at 0 pins on", Why::Number),
+        (b"at 1 pins on", Why::Word),
+        (b"at 1 pin up", Why::Word),
+        (b"at 1 reset cold", Why::Word),
+        (b"at 1 byte 256", Why::Number),
+        (b"trace 1", Why::Count),
         (b"out 1", Why::Count),
         (b"out 0x10000 0", Why::Number),
         (b"out 65535 0", Why::Hex),
@@ -148,9 +192,13 @@ fn the_word_at_fault_is_told(rt: HostRuntime) {
         ),
         (b"out 0 0", 3, Wanted::Bytes { most: 8192 }),
         (b"in 65535 2", 3, Wanted::Ports),
+        (b"at 1 pins on", 3, Wanted::WorldEvent),
+        (b"at 1 pin up", 4, Wanted::Switch),
     ] {
         assert_eq!(rt; parse(line).err(), Some(Fault::of_word(place, wanted)));
     }
     let count = Wanted::Words { count: 2 };
     assert_eq!(rt; parse(b"in 0").err(), Some(Fault::of_line(count)));
+    let count = Wanted::CutWords;
+    assert_eq!(rt; parse(b"cut").err(), Some(Fault::of_line(count)));
 }

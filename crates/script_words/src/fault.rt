@@ -13,8 +13,8 @@ pub enum Wanted {
     #[error("printable ASCII")]
     Printable,
     #[error("one of hello, version, chipinfo, cmdversions, protoinfo, flashinfo, regioninfo, flashread, flashwrite, \
-             flashprotect, echash, sysinfo, reboot_ec, test, resend, pin, power, reset, tick, out, in, i2cw, i2cr \
-             and spi")]
+             flashprotect, echash, sysinfo, reboot_ec, test, resend, pin, power, reset, tick, cut, at, out, in, i2cw, \
+             i2cr, spi and trace")]
     FirstWord,
     /// So many words behind the first one.
     #[error("{count}")]
@@ -25,10 +25,15 @@ pub enum Wanted {
     /// As many words behind `echash` as one of its forms has.
     #[error("0, 1, 2 or 3")]
     HashWords,
+    /// As many words behind `cut` as one of its forms has.
+    #[error("1 or 2")]
+    CutWords,
     #[error("on or off")]
     Switch,
     #[error("pin or watchdog")]
     Cause,
+    #[error("pin, power, reset or byte")]
+    WorldEvent,
     #[error("ro, active, wp_ro or update")]
     Region,
     #[error("now, enable or disable")]
@@ -70,6 +75,7 @@ impl Wanted {
             Wanted::FirstWord
             | Wanted::Switch
             | Wanted::Cause
+            | Wanted::WorldEvent
             | Wanted::Region
             | Wanted::Protection
             | Wanted::Bits
@@ -78,7 +84,8 @@ impl Wanted {
             | Wanted::HashStartOrRange
             | Wanted::Image
             | Wanted::Reboot => Why::Word,
-            Wanted::Words { .. } | Wanted::ProtectWords | Wanted::HashWords => Why::Count,
+            Wanted::Words { .. } | Wanted::ProtectWords | Wanted::HashWords | Wanted::CutWords =>
+                Why::Count,
             Wanted::Number { .. } | Wanted::Ports => Why::Number,
             Wanted::Bytes { .. } | Wanted::SpiBytes { .. } => Why::Hex,
         }

@@ -3,8 +3,8 @@ use Rattle.std.specs.Prelude.{IsTrue}
 use Rattle.flash_dev.specs.Ranges.{is_flash_size}
 use Rattle.ec_types.specs.declared.bus.BusKind.{BusKind}
 use Rattle.bench_words.proofs.ReaderLemmas.{spell_once}
-use Rattle.ecbench.specs.Endings.{StartsOn, StartsBooted, StartsFrom, seen, undisturbed, followed, RunsTo, KeepsRo, GuardsRun}
-use Rattle.ecbench.proofs.Whole.{runs-none, guarded-none, ends-by, ends-told, where-spelled, nothing-at-all, told-all}
+use Rattle.ecbench.specs.Endings.{RunsTo, KeepsRo, GuardsRun}
+use Rattle.ecbench.proofs.Whole.{runs-none, guarded-none, ends-by, where-spelled, nothing-at-all}
 use Rattle.ecbench.proofs.run.run.Goals as goal
 
 pub returns-in-Err-NoMemory-clause-run : goal.returns-in-Err-NoMemory-clause-run
@@ -29,25 +29,11 @@ pub returns-in_default-clause-guarded : goal.returns-in_default-clause-guarded
 returns-in_default-clause-guarded g c = λ path bus pin spelled.
     rw (c.refused-in_default.ensures.journal) (guarded-none bus pin (g.F.FlashDev.seen c.args.flash).held)
 
-pub returns-in_default-clause-undisturbed : goal.returns-in_default-clause-undisturbed
-returns-in_default-clause-undisturbed g c = λ none.
-    let read = c.in-Ok.read in
-    rw (c.refused-in_default.ensures.exit, c.refused-in_default.ensures.journal)
-    (told-all (g.F.FlashDev.seen c.args.flash).held _ (λ bytes.
-    ((read.flash.now, read.bus, read.pin, c.in-Ok.ensures.ok), search rules, nothing-at-all (g.S.Source.left c.args.source.now) (g.K.Sink.written c.args.sink.now))))
-
-pub returns-in_default-clause-followed : goal.returns-in_default-clause-followed
-returns-in_default-clause-followed g c =
-    let read = c.in-Ok.read in
-    rw (c.refused-in_default.ensures.exit, c.refused-in_default.ensures.journal)
-    (told-all (g.F.FlashDev.seen c.args.flash).held _ (λ bytes.
-    ((read.flash.now, read.bus, read.pin, c.in-Ok.ensures.ok), search rules, nothing-at-all (g.S.Source.left c.args.source.now) (g.K.Sink.written c.args.sink.now))))
-
 pub returns-clause-ends : goal.returns-clause-ends
 returns-clause-ends g c =
     let allowed : is_flash_size (g.F.FlashDev.seen c.args.flash).extent ≡ true = ap is_flash_size (sym c.size.ensures) ∙ c.in-Some.ensures.allowed.0 refl in
     let read = c.in-Ok.read in
-    ends-by StartsOn seen c.carry_by.result.exit c.args.words.now (g.F.FlashDev.seen c.args.flash).extent read.flash.now read.bus read.pin _ _ _ _ _ c.in-Ok.ensures.ok allowed c.carry_by.ensures.carries.ends
+    ends-by c.carry_by.result.exit c.args.words.now (g.F.FlashDev.seen c.args.flash) (g.F.FlashDev.seen c.carry_by.result.flash) read.flash.now read.bus read.pin _ _ _ _ _ c.in-Ok.ensures.ok allowed c.carry_by.ensures.carries.ends
 
 pub returns-clause-run : goal.returns-clause-run
 returns-clause-run g c =
@@ -71,17 +57,3 @@ returns-clause-guarded g c =
     let came = g.F.FlashDev.seen c.args.flash in
     where-spelled c.args.words.now (λ (bus : BusKind) (pin : Bool). GuardsRun bus pin c.carry_by.result.journal.entries came.held) read.flash.now read.bus read.pin
     (spell_once c.args.words.now) c.in-Ok.ensures.ok c.carry_by.ensures.carries.guards
-
-pub returns-clause-undisturbed : goal.returns-clause-undisturbed
-returns-clause-undisturbed g c = λ none.
-    let allowed : is_flash_size (g.F.FlashDev.seen c.args.flash).extent ≡ true = ap is_flash_size (sym c.size.ensures) ∙ c.in-Some.ensures.allowed.0 refl in
-    let read = c.in-Ok.read in
-    ends-told StartsBooted undisturbed (g.F.FlashDev.seen c.args.flash).held c.carry_by.result.exit c.args.words.now (g.F.FlashDev.seen c.args.flash).extent read.flash.now read.bus read.pin _ _ _ _ _
-    c.in-Ok.ensures.ok allowed (c.carry_by.ensures.carries.whole none)
-
-pub returns-clause-followed : goal.returns-clause-followed
-returns-clause-followed g c =
-    let allowed : is_flash_size (g.F.FlashDev.seen c.args.flash).extent ≡ true = ap is_flash_size (sym c.size.ensures) ∙ c.in-Some.ensures.allowed.0 refl in
-    let read = c.in-Ok.read in
-    ends-told StartsFrom followed (g.F.FlashDev.seen c.args.flash).held c.carry_by.result.exit c.args.words.now (g.F.FlashDev.seen c.args.flash).extent read.flash.now read.bus read.pin _ _ _ _ _
-    c.in-Ok.ensures.ok allowed c.carry_by.ensures.carries.follows

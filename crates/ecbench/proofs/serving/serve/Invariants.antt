@@ -6,5 +6,5 @@ use Rattle.ecbench.proofs.serving.serve.Given as goal
 
 abbrev pub invariant-loop-number : goal.invariant-loop-number
 invariant-loop-number g l =
-    Served l.number (wire_view g.B.Bus.bus l.fn.bench) (wire_view g.B.Bus.bus l.bench) l.reader (g.S.Source.left l.fn.source) (g.S.Source.left l.source) (g.K.Sink.written l.fn.sink) (g.K.Sink.written l.sink)
+    Served l.number l.since (wire_view g.B.Bus.bus l.fn.bench) (wire_view g.B.Bus.bus l.bench) l.reader (g.S.Source.left l.fn.source) (g.S.Source.left l.source) (g.K.Sink.written l.fn.sink) (g.K.Sink.written l.sink)
     × (l.reader.given ≤ most_bytes) × (g.S.Source.faults l.fn.source ≤ g.S.Source.faults l.source) × (g.K.Sink.faults l.fn.sink ≤ g.K.Sink.faults l.sink)
