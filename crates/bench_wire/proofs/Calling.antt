@@ -23,6 +23,7 @@ use Rattle.ec_wire.proofs.Appends.{calls_of-append, on_after-append}
 use Rattle.ec_wire.proofs.Calm.{with_byte-access_byte}
 use Rattle.ec_wire.proofs.Growth.{powerless-then}
 use Rattle.bench_wire.specs.Falling.{EntryTold, EventsTold, Steps, Falls, come_nearer}
+use Rattle.bench_wire.specs.Calling.{arriving, seen_instead, CallAdds}
 use Rattle.bench_wire.proofs.Extending.{rose-along}
 use Rattle.bench_wire.proofs.Falling.{falls-none}
 
@@ -150,7 +151,7 @@ turned-same access due arrived answer seen hurt none turned =
     (turned.arrived_is ∙ ap (λ (events : List WorldEvent). if brings_byte access then with_byte access (byte_among events (access_byte access)) else access) none ∙ arrives-same (brings_byte access) access))
 
 -- an access, behind the events that are due
-pub access-adds : (access arrived : Access) (answer seen : ℕ) (hurt : Hurt) (old middle new : WireView) → IsTurned access (due_events old.armed) arrived answer seen
+access-adds : (access arrived : Access) (answer seen : ℕ) (hurt : Hurt) (old middle new : WireView) → IsTurned access (due_events old.armed) arrived answer seen
     → Falls (due_events old.armed) (come_nearer old) middle → Steps (AccessEvent arrived) answer (access_byte access) seen hurt middle new → AccessAdds access seen old new
 access-adds access arrived answer seen hurt old middle new turned falls steps =
     let due = due_events old.armed in
@@ -177,7 +178,7 @@ access-adds access arrived answer seen hurt old middle new turned falls steps =
     }
 
 -- a wait, behind the events that are due
-pub wait-adds : (answer : ℕ) (hurt : Hurt) (old middle new : WireView) → Falls (due_events old.armed) (come_nearer old) middle → Steps Tick answer 0 answer hurt middle new → WaitAdds old new
+wait-adds : (answer : ℕ) (hurt : Hurt) (old middle new : WireView) → Falls (due_events old.armed) (come_nearer old) middle → Steps Tick answer 0 answer hurt middle new → WaitAdds old new
 wait-adds answer hurt old middle new falls steps =
     let bare : Steps Tick 0 0 0 hurt middle new = subst (λ (a : ℕ). Steps Tick a 0 a hurt middle new) steps.silent steps in
     record {
@@ -218,7 +219,7 @@ pub wait-unarmed : (answer : ℕ) (hurt : Hurt) (old new : WireView) → old.arm
 wait-unarmed answer hurt old new none steps = wait-adds answer hurt old old new (falls-unarmed old none) steps
 
 -- the last changed byte turns an access
-pub turned-by : (access arrived : Access) (due : List WorldEvent) (changed seen : Option ℕ) (answer : ℕ) → ((byte : ℕ) → unwrap_or changed byte ≡ byte_among due byte)
+turned-by : (access arrived : Access) (due : List WorldEvent) (changed seen : Option ℕ) (answer : ℕ) → ((byte : ℕ) → unwrap_or changed byte ≡ byte_among due byte)
     → arrived ≡ (if brings_byte access then with_byte access (unwrap_or changed (access_byte access)) else access) → seen ≡ (if brings_byte access then None else changed)
     → IsTurned access due arrived answer (unwrap_or seen answer)
 turned-by access arrived due changed seen answer bytes arrived_is seen_is = record {
@@ -229,3 +230,21 @@ turned-by access arrived due changed seen answer bytes arrived_is seen_is = reco
       → unwrap_or (if brings then None else changed) answer ≡ (if brings then answer else byte_among due answer)
   seen-by true changed due answer bytes = refl
   seen-by false changed due answer bytes = bytes answer
+
+-- one event of the host's, behind the events that are due
+pub call-adds : (event arrived : Event) (changed seen : Option ℕ) (answer meant : ℕ) (hurt : Hurt) (old middle new : WireView) → ((byte : ℕ) → unwrap_or changed byte ≡ byte_among (due_events old.armed) byte)
+    → arrived ≡ arriving event changed → meant ≡ event_byte event → seen ≡ seen_instead event changed
+    → Falls (due_events old.armed) (come_nearer old) middle → Steps arrived answer meant (unwrap_or seen answer) hurt middle new → CallAdds event (unwrap_or seen answer) old new
+call-adds (AccessEvent access) arrived changed seen answer meant hurt old middle new bytes arrived_is meant_is seen_is falls steps =
+    let own : Access = if brings_byte access then with_byte access (unwrap_or changed (access_byte access)) else access in
+    access-adds access own answer (unwrap_or seen answer) hurt old middle new (turned-by access own (due_events old.armed) changed seen answer bytes refl seen_is) falls
+    (subst (λ (event : Event). Steps event answer (access_byte access) (unwrap_or seen answer) hurt middle new) arrived_is
+    (subst (λ (byte : ℕ). Steps arrived answer byte (unwrap_or seen answer) hurt middle new) meant_is steps))
+call-adds Tick arrived changed seen answer meant hurt old middle new bytes arrived_is meant_is seen_is falls steps =
+    wait-adds answer hurt old middle new falls
+    (subst (λ (event : Event). Steps event answer 0 answer hurt middle new) arrived_is
+    (subst (λ (byte : ℕ). Steps arrived answer byte answer hurt middle new) meant_is
+    (subst (λ (other : Option ℕ). Steps arrived answer meant (unwrap_or other answer) hurt middle new) seen_is steps)))
+call-adds (Reset cause) arrived changed seen answer meant hurt old middle new bytes arrived_is meant_is seen_is falls steps = tt
+call-adds (PowerEvent on) arrived changed seen answer meant hurt old middle new bytes arrived_is meant_is seen_is falls steps = tt
+call-adds (PinEvent on) arrived changed seen answer meant hurt old middle new bytes arrived_is meant_is seen_is falls steps = tt

@@ -1,10 +1,9 @@
 // The controller with the journal of all that happened to it.
-ghost use Rattle.std.specs.Prelude.{◌≡◌, [], ◌∷◌, IsFalse, option_map, option_to_list, unwrap_or, if◌then◌else◌, None};
-ghost use Rattle.ec_model.specs.Upset.{access_byte, event_byte};
-ghost use Rattle.ec_model.specs.HostCalls.{with_byte};
+ghost use Rattle.std.specs.Prelude.{◌≡◌, [], ◌∷◌, IsFalse, option_map, option_to_list, unwrap_or};
+ghost use Rattle.ec_model.specs.Upset.{event_byte};
 ghost use Rattle.ec_model.specs.Bench.{events_among};
-ghost use Rattle.ec_model.specs.Played.{brings_byte};
 ghost use Rattle.bench_wire.specs.Adding.{is_byte};
+ghost use Rattle.bench_wire.specs.Calling.{arriving, seen_instead};
 
 use crate::arms::{ArmedEvent, Arms, ArmsFull, last_byte};
 use ec_core::Ec;
@@ -59,12 +58,12 @@ impl<B: Bus + Drop, F: Tear> Bench<B, CutFlash<F>> {
 impl<B: Bus + Drop, F: FlashDev> Bench<B, F> {
     ghost use Rattle.std.specs.Prelude.{◌≤◌, ◌+◌, ℕ, length, IfSome};
     ghost use Rattle.ec_model.specs.Bench.{due_events, byte_among};
-    ghost use Rattle.ec_wire.specs.Calls.{AccessAdds, Agrees, WaitAdds};
+    ghost use Rattle.ec_wire.specs.Calls.{Agrees};
     ghost use Rattle.bench_wire.specs.BenchView.{wire_view};
     ghost use Rattle.bench_wire.specs.Adding.{Adds, Happens, IsMarked};
     ghost use Rattle.bench_wire.specs.Arming.{IsArmed, events_of, room_for};
+    ghost use Rattle.bench_wire.specs.Calling.{CallAdds};
     ghost use Rattle.bench_wire.specs.Falling.{Falls, Steps, come_nearer};
-    ghost use Rattle.ec_model.specs.declared.event.Event.TheVariants.{Tick};
     ghost use Rattle.ec_model.specs.declared.event.Entry.TheVariants.{Mark as MarkEntry};
 
     /// The controller, with an empty journal that has no room yet. Nothing is armed.
@@ -131,9 +130,9 @@ impl<B: Bus + Drop, F: FlashDev> Bench<B, F> {
         }
     }
 
-    // What is armed comes nearer by one access or wait, and what is due before it falls. Gives the last changed byte among
-    // that.
-    fn fall_due(&mut self) -> Option<u8>
+    /// What is armed comes nearer by one access or wait, and what is due before it falls. Gives the last changed byte among
+    /// that.
+    pub(crate) fn fall_due(&mut self) -> Option<u8>
         ensures falls { Falls (due_events self.old.armed) (come_nearer (wire_view B.bus self.old)) (wire_view B.bus self.new) }
         ensures byte { (byte : ℕ) → unwrap_or result byte ≡ byte_among (due_events self.old.armed) byte }
     {
@@ -142,31 +141,18 @@ impl<B: Bus + Drop, F: FlashDev> Bench<B, F> {
         last_byte(due.as_slice())
     }
 
-    /// One access behind the events that are due: the last changed byte among them takes the place of the access's own.
+    /// One event of the host's behind the events that are due: the last changed byte among them takes the place of the
+    /// byte of an access, and is dropped at a tick.
     #[inline(never)]
-    pub(crate) fn access_armed(&mut self, a: Access) -> u8
+    pub(crate) fn step_behind(&mut self, event: Event) -> u8
         requires { 1 ≤ self.old.spare }
-        ensures adds { AccessAdds a result (wire_view B.bus self.old) (wire_view B.bus self.new) }
+        ensures adds { CallAdds event result (wire_view B.bus self.old) (wire_view B.bus self.new) }
         ensures agrees { IfSome self.new.controller.table (Agrees B.bus self.new.controller.on) }
     {
         let changed = self.fall_due();
-        let event = Event::Access {
-            a: arriving(a, changed),
-        };
-        let seen = seen_instead(a, changed);
-        let answer = self.step_as(event, byte_of(Event::Access { a }), seen);
+        let seen = seen_instead(event, changed);
+        let answer = self.step_as(arriving(event, changed), byte_of(event), seen);
         seen.unwrap_or(answer)
-    }
-
-    /// One wait behind the events that are due: a changed byte among them is dropped.
-    #[inline(never)]
-    pub(crate) fn wait_armed(&mut self)
-        requires { 1 ≤ self.old.spare }
-        ensures adds { WaitAdds (wire_view B.bus self.old) (wire_view B.bus self.new) }
-        ensures agrees { IfSome self.new.controller.table (Agrees B.bus self.new.controller.on) }
-    {
-        let _ = self.fall_due();
-        let _ = self.step(Event::Tick);
     }
 
     /// Arms an event of the world: it falls before the `n`th access or wait from now, behind the others that are due then.
@@ -252,28 +238,39 @@ fn byte_of(event: Event) -> u8
     }
 }
 
-// An access as it arrives: a changed byte takes the place of one that is sent.
-fn arriving(a: Access, changed: Option<u8>) -> Access
-    ensures { result ≡ (if brings_byte a then with_byte a (unwrap_or changed (access_byte a)) else a) }
+// An event as it arrives: a changed byte takes the place of one that is sent.
+fn arriving(event: Event, changed: Option<u8>) -> Event
+    ensures { result ≡ arriving event changed }
 {
-    match a {
-        Access::PortOut { port, byte } => Access::PortOut {
-            port,
-            byte: changed.unwrap_or(byte),
+    match event {
+        Event::Access {
+            a: Access::PortOut { port, byte },
+        } => Event::Access {
+            a: Access::PortOut {
+                port,
+                byte: changed.unwrap_or(byte),
+            },
         },
-        Access::I2cWrite { byte } => Access::I2cWrite {
-            byte: changed.unwrap_or(byte),
+        Event::Access {
+            a: Access::I2cWrite { byte },
+        } => Event::Access {
+            a: Access::I2cWrite {
+                byte: changed.unwrap_or(byte),
+            },
         },
         other => other,
     }
 }
 
-// What is seen of an access in place of the answer: a changed byte, but where it took the place of the byte that was sent.
-fn seen_instead(a: Access, changed: Option<u8>) -> Option<u8>
-    ensures { result ≡ (if brings_byte a then None else changed) }
+// What is seen of an event in place of the answer: a changed byte, but where it took the place of the byte that was sent.
+fn seen_instead(event: Event, changed: Option<u8>) -> Option<u8>
+    ensures { result ≡ seen_instead event changed }
 {
-    match a {
-        Access::PortOut { .. } | Access::I2cWrite { .. } => None,
-        _ => changed,
+    match event {
+        Event::Access {
+            a: Access::PortOut { .. } | Access::I2cWrite { .. },
+        } => None,
+        Event::Access { .. } => changed,
+        _ => None,
     }
 }

@@ -23,7 +23,7 @@ impl<B: Bus + Drop, F: FlashDev> Wire for Bench<B, F> {
         if self.arms.is_empty() {
             self.step(Event::Access { a })
         } else {
-            self.access_armed(a)
+            self.step_behind(Event::Access { a })
         }
     }
 
@@ -31,7 +31,7 @@ impl<B: Bus + Drop, F: FlashDev> Wire for Bench<B, F> {
         if self.arms.is_empty() {
             let _ = self.step(Event::Tick);
         } else {
-            self.wait_armed();
+            let _ = self.step_behind(Event::Tick);
         }
     }
 

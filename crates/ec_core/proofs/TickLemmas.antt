@@ -15,20 +15,13 @@ use Rattle.ec_boot.specs.declared.awake.Awake.{Awake}
 use Rattle.ec_boot.specs.Either.{run_of}
 use Rattle.ec_boot.specs.States.{RunView, OffView, core_at, told_core, Follows}
 use Rattle.ec_boot.specs.Ticked.{IsTicked}
-use Rattle.flash_dev.specs.Counts.{RisesAtMost}
-use Rattle.flash_dev.specs.Costs.{Costs, hurt_of}
-use Rattle.ec_core.specs.Held.{awake_of, up_table, down_table, answer_by}
-use Rattle.ec_core.specs.Task.{IsTakenUp, IsStepped}
+use Rattle.flash_dev.specs.Costs.{hurt_of}
+use Rattle.ec_core.specs.Held.{awake_of, up_table, down_table, answer_by, kept_device, kept_pin}
+use Rattle.ec_core.specs.Task.{IsTaken, IsTakenUp, IsStepped, Ticks, IsKeptTicked}
+use Rattle.ec_core.specs.declared.held.Held.{Held}
 use Rattle.ec_core.specs.declared.held.Held.TheVariants.{Down, Up}
 use Rattle.ec_core.specs.declared.task.Task.TheVariants.{Tick as TickTask}
 use Rattle.ec_core.proofs.TaskLemmas.{WorkBegun, WorkTold, none-begun, event-told, step-up, on-alive, spends-in}
-
--- what a controller's tick did, on the runs before and behind it
-pub record Ticks {T : Type 0} (run next : RunView) (result : Result T DevErr) : Type 0 where
-  pub told : Changes (λ before after. IsTicked (idle_work before.live.erase before.live.hash) run.device next.device before after result) (told_core run) (told_core next)
-  pub pin : next.pin ≡ run.pin
-  pub spent : Costs (hurt_of result) 1024 run.device next.device
-  pub wear : RisesAtMost 1 run.device.wear next.device.wear
 
 -- the work of a tick is that of what is on, whatever bytes the flash tells
 by-run : {T : Type 0} (result : Result T DevErr) (run next : RunView) → Changes (λ before after. IsTicked (idle_work before.live.erase before.live.hash) run.device next.device before after result) (told_core run) (told_core next) →
@@ -122,7 +115,7 @@ tick-work : (event : Event) (answer : ℕ) (old_bus bus : BusState) (run : RunVi
 tick-work event answer old_bus bus run taken = same-work (idle_work run.live.erase run.live.hash) (work_on (awake_of run old_bus) event) taken.task_is
 
 -- a tick behind which power is still there
-pub ticked-up : {F T : Type 0} (kind : BusKind) (event : Event) (answer : ℕ) (old_bus bus : BusState) (up later : Awake F) (result : Result T DevErr) → (hurt_of result ≡ Cut → ⊥) → Ticks (run_of up) (run_of later) result →
+ticked-up : {F T : Type 0} (kind : BusKind) (event : Event) (answer : ℕ) (old_bus bus : BusState) (up later : Awake F) (result : Result T DevErr) → (hurt_of result ≡ Cut → ⊥) → Ticks (run_of up) (run_of later) result →
     IsTakenUp event old_bus (Some TickTask) bus answer (run_of up) → IsStepped {F = F} kind event (hurt_of result) (answer_by (hurt_of result) answer (lost_answer event)) old_bus bus (Some (Up up)) (Some (Up later))
 ticked-up {F} {T} kind event answer old_bus bus up later result alive ticks taken =
     step-up {F = F} kind event (hurt_of result) answer old_bus bus bus (Some TickTask) up (Up later) taken
@@ -132,7 +125,7 @@ ticked-up {F} {T} kind event answer old_bus bus up later result alive ticks take
     (on-alive (hurt_of result) alive) ticks.pin taken.calm (spends-in (hurt_of result) 1 (run_of up).device (run_of later).device (omega arith) ticks.spent ticks.wear)
 
 -- a tick in which power was lost
-pub ticked-down : {F T : Type 0} (kind : BusKind) (event : Event) (answer : ℕ) (old_bus bus : BusState) (up : Awake F) (next : RunView) (off : OffView) (pin : Bool) → kind_of bus ≡ kind → off.device ≡ next.device → pin ≡ (run_of up).pin →
+ticked-down : {F T : Type 0} (kind : BusKind) (event : Event) (answer : ℕ) (old_bus bus : BusState) (up : Awake F) (next : RunView) (off : OffView) (pin : Bool) → kind_of bus ≡ kind → off.device ≡ next.device → pin ≡ (run_of up).pin →
     Ticks {T = T} (run_of up) next (Err PowerLost) → IsTakenUp event old_bus (Some TickTask) bus answer (run_of up) → IsStepped {F = F} kind event Cut (lost_answer event) old_bus bus (Some (Up up)) (Some (Down off pin))
 ticked-down {F} {T} kind event answer old_bus bus up next off pin kind_is device_is pin_is ticks taken =
     subst (λ (p : Bool). IsStepped {F = F} kind event Cut (lost_answer event) old_bus bus (Some (Up up)) (Some (Down off p))) (sym pin_is)
@@ -142,3 +135,21 @@ ticked-down {F} {T} kind event answer old_bus bus up next off pin kind_is device
     (tick-work event answer old_bus bus (run_of up) taken)
     (cut-told T (idle_work (run_of up).live.erase (run_of up).live.hash) (run_of up) next bus kind answer (lost_answer event) kind_is (by-run {T = T} (Err PowerLost) (run_of up) next ticks.told)))
     refl refl tt (spends-in Cut 1 (run_of up).device next.device (omega arith) ticks.spent ticks.wear)))
+
+-- the same of what a controller holds
+pub kept-ticked : {F T : Type 0} (kind : BusKind) (event : Event) (answer : ℕ) (old_bus bus : BusState) (old new : Option (Held F)) (result : Result T DevErr) → (hurt_of result ≡ Cut → ⊥) → IsKeptTicked {F = F} {T = T} result old new →
+    IsTaken {F = F} event old_bus (Some TickTask) bus answer old → IsStepped {F = F} kind event (hurt_of result) (answer_by (hurt_of result) answer (lost_answer event)) old_bus bus old new
+kept-ticked {F} {T} kind event answer old_bus bus (Some (Up old)) (Some (Up new)) result alive ticks taken = ticked-up {F = F} {T = T} kind event answer old_bus bus old new result alive ticks taken
+kept-ticked kind event answer old_bus bus (Some (Up old)) (Some (Down off pin)) result alive ticks taken = absurd ticks
+kept-ticked kind event answer old_bus bus (Some (Up old)) None result alive ticks taken = absurd ticks
+kept-ticked kind event answer old_bus bus (Some (Down off pin)) new result alive ticks taken = absurd ticks
+kept-ticked kind event answer old_bus bus None new result alive ticks taken = absurd ticks
+
+pub kept-cut : {F : Type 0} (T : Type 0) (kind : BusKind) (event : Event) (answer : ℕ) (old_bus bus : BusState) (old new : Option (Held F)) → kind_of bus ≡ kind → IsKeptTicked {F = F} {T = T} (Err PowerLost) old new →
+    IsTaken {F = F} event old_bus (Some TickTask) bus answer old → IsStepped {F = F} kind event Cut (lost_answer event) old_bus bus old (Some (Down (record { device = kept_device new }) (kept_pin new)))
+kept-cut {F} T kind event answer old_bus bus (Some (Up old)) (Some (Up new)) kind_is ticks taken =
+    ticked-down {F = F} {T = T} kind event answer old_bus bus old (run_of new) (record { device = (run_of new).device }) (run_of new).pin kind_is refl ticks.pin ticks taken
+kept-cut T kind event answer old_bus bus (Some (Up old)) (Some (Down off pin)) kind_is ticks taken = absurd ticks
+kept-cut T kind event answer old_bus bus (Some (Up old)) None kind_is ticks taken = absurd ticks
+kept-cut T kind event answer old_bus bus (Some (Down off pin)) new kind_is ticks taken = absurd ticks
+kept-cut T kind event answer old_bus bus None new kind_is ticks taken = absurd ticks

@@ -1,7 +1,11 @@
 -- What an event has the controller do, and what is left once that is done.
-use Rattle.std.specs.Prelude.{◌≡◌, ℕ, Bool, true, false, IsNone, IsSome, IsTrue, IsFalse, List, Option, Some, None, ⊤}
+use Rattle.std.specs.Prelude.{◌≡◌, ℕ, Bool, true, false, IsNone, IsSome, IsTrue, IsFalse, List, Option, Some, None, Result, ⊤}
 use Rattle.ec_types.specs.declared.bus.BusKind.{BusKind}
 use Rattle.ec_model.specs.declared.event.Event.{Event}
+use Rattle.flash_dev.specs.Told.{Changes}
+use Rattle.flash_dev.specs.Counts.{RisesAtMost}
+use Rattle.flash_dev.specs.Costs.{Costs, hurt_of}
+use Rattle.flash_dev.specs.declared.device.DevErr.{DevErr}
 use Rattle.flash_dev.specs.declared.hurt.Hurt.{Hurt}
 use Rattle.flash_dev.specs.declared.hurt.Hurt.TheVariants.{Cut}
 use Rattle.ec_model.specs.Bus.{BusState, due_now}
@@ -10,7 +14,8 @@ use Rattle.ec_model.specs.Guarded.{pin_after}
 use Rattle.ec_model.specs.Work.{Work, Rest, Serve, Boot, Stop, SetPin, idle_work, work_on, work_off, bus_after, lost_answer}
 use Rattle.ec_wire.specs.Dues.{waiting_request}
 use Rattle.ec_boot.specs.Either.{run_of}
-use Rattle.ec_boot.specs.States.{RunView}
+use Rattle.ec_boot.specs.States.{RunView, told_core}
+use Rattle.ec_boot.specs.Ticked.{IsTicked}
 use Rattle.ec_core.specs.Held.{awake_of, kept_table, kept_device, kept_pin, is_kept_up, IsKept, IsSpent, WearsLittle, IsSilent, EventTold, answer_behind, on_behind}
 use Rattle.command_table.specs.Serving.{Finds, IsServed}
 use Rattle.command_table.specs.declared.reboot.Next.{Next}
@@ -108,3 +113,15 @@ IsCarried kind task hurt restarted bus new_bus old new =
 abbrev pub IsKeptServed : {F : Type 0} → Next → ℕ → Finds → Hurt → ℕ → List ℕ → Option (Held F) → Option (Held F) → Type 0
 IsKeptServed next limit finds hurt status body (Some (Up old)) (Some (Up new)) = IsServed next limit finds hurt status body (run_of old) (run_of new)
 IsKeptServed next limit finds hurt status body old new = ⊥
+
+-- what a controller's tick did, on the runs before and behind it
+pub record Ticks {T : Type 0} (run next : RunView) (result : Result T DevErr) : Type 0 where
+  pub told : Changes (λ before after. IsTicked (idle_work before.live.erase before.live.hash) run.device next.device before after result) (told_core run) (told_core next)
+  pub pin : next.pin ≡ run.pin
+  pub spent : Costs (hurt_of result) 1024 run.device next.device
+  pub wear : RisesAtMost 1 run.device.wear next.device.wear
+
+-- a tick was done on what a controller holds, which is on
+abbrev pub IsKeptTicked : {F T : Type 0} → Result T DevErr → Option (Held F) → Option (Held F) → Type 0
+IsKeptTicked result (Some (Up old)) (Some (Up new)) = Ticks (run_of old) (run_of new) result
+IsKeptTicked result old new = ⊥

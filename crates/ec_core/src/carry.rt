@@ -3,7 +3,7 @@ ghost use Rattle.std.specs.Prelude.{◌≡◌, ◌≢◌, Some, IsSome, IsNone, 
 ghost use Rattle.ec_model.specs.Bus.{fresh_bus};
 ghost use Rattle.ec_core.specs.declared.held.Held.TheVariants.{Up, Down};
 ghost use Rattle.ec_boot.specs.declared.awake.Awake.TheVariants.{Ro};
-ghost use Rattle.ec_core.specs.declared.task.Task.TheVariants.{Serve};
+ghost use Rattle.ec_core.specs.declared.task.Task.TheVariants.{Serve, Tick};
 ghost use Rattle.command_table.specs.After.{boot_hurt};
 ghost use Rattle.ec_core.specs.Held.{is_up, is_kept_up};
 ghost use Rattle.ec_core.specs.Task.{IsCarried, CanCarry};
@@ -51,13 +51,13 @@ fn booted<B: Bus + Drop, F: FlashDev>(on: InRo<F>, bus: &mut B) -> Carried<F>
     }
 }
 
-// A task of a controller that is on, but to serve.
+// A task of a controller that is on, but to serve, or a tick.
 fn carry_up<B: Bus + Drop, F: FlashDev>(mut on: Awake<F>, bus: &mut B, task: Task) -> Carried<F>
-    requires { task ≢ Serve }
+    requires serve { task ≢ Serve }
+    requires tick { task ≢ Tick }
     ensures { IsCarried B.bus task result.hurt result.restarted (B.state bus.old) (B.state bus.new) (Some (Up on)) (Some result.held) }
 {
     match task {
-        Task::Tick => tick(on, bus),
         Task::Boot { cause } => booted(on.reset(cause), bus),
         Task::Stop => {
             let pin = on.pin();
@@ -75,7 +75,7 @@ fn carry_up<B: Bus + Drop, F: FlashDev>(mut on: Awake<F>, bus: &mut B, task: Tas
                 restarted: false,
             }
         }
-        Task::Serve => unreachable!(),
+        Task::Serve | Task::Tick => unreachable!(),
     }
 }
 
@@ -100,10 +100,11 @@ fn carry_down<B: Bus + Drop, F: FlashDev>(
     }
 }
 
-// A task but to serve.
+// A task but to serve, or a tick.
 fn carry<B: Bus + Drop, F: FlashDev>(held: Held<F>, bus: &mut B, task: Task) -> Carried<F>
     requires task { CanCarry task (B.state bus.old) (is_up held) }
-    requires other { task ≢ Serve }
+    requires serve { task ≢ Serve }
+    requires tick { task ≢ Tick }
     ensures { IsCarried B.bus task result.hurt result.restarted (B.state bus.old) (B.state bus.new) (Some held) (Some result.held) }
 {
     match held {
@@ -143,6 +144,7 @@ pub fn carry_out<B: Bus + Drop, F: FlashDev>(
 {
     match task {
         Task::Serve => serve(held, bus),
+        Task::Tick => tick(held, bus),
         other => match held.take() {
             Some(before) => put(held, carry(before, bus, other)),
             None => unreachable!(),

@@ -1,9 +1,6 @@
 use Rattle.ec_core.proofs.BootLemmas.{booted-up}
 use Rattle.ec_core.proofs.carry.carry_up.Goals as goal
 
-pub returns-in-Tick : goal.returns-in-Tick
-returns-in-Tick g c = λ event old_bus answer taken. c.tick.ensures event old_bus answer (rw c.in-Tick.is at taken)
-
 pub returns-in-Boot : goal.returns-in-Boot
 returns-in-Boot g c = λ event old_bus answer taken.
     rw c.booted.ensures.restarted
