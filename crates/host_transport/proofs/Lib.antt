@@ -1,2 +1,7 @@
 pub mod SendLaws
 pub mod OnceLaws
+pub mod AskLaws
+pub mod WireParts
+pub mod PollTurns
+pub mod TryLaws
+pub mod CommandLaws

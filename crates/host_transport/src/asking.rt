@@ -1,16 +1,46 @@
-// One request, sent once.
-ghost use Rattle.std.specs.Prelude.{◌≡◌, ◌≤◌, ◌+◌, length, drop, IsTrue};
+// One request, sent once: with the power looked at behind it, or with the room before it.
+ghost use Rattle.std.specs.Prelude.{◌≡◌, ◌≤◌, ◌+◌, List, ℕ, length, drop};
 ghost use Rattle.ec_types.specs.Tables.{packet_limit};
-ghost use Rattle.ec_model.specs.Packet.{request_packet, is_response, response_view};
+ghost use Rattle.ec_model.specs.Packet.{request_packet};
+ghost use Rattle.ec_model.specs.Asks.{packet_of, has_status};
+ghost use Rattle.ec_packet.specs.Read.{request_view};
 ghost use Rattle.exchange_laws.specs.Served.{IsPlain};
-ghost use Rattle.host_transport.specs.Once.{AsksOnce, said_by};
+ghost use Rattle.host_transport.specs.Once.{AsksOnce};
 ghost use Rattle.host_transport.specs.Ends.{ending_of};
+ghost use Rattle.host_transport.specs.Asking.{got_of, AsksOn, Leaves};
 
 use crate::ending::Once;
-use ec_packet::{Packet, decode_response, write_request};
-use ec_types::status;
+use crate::sending::{Heard, send_request};
+use ec_packet::{Packet, Request};
 use ec_wire::Wire;
-use host_framing::{Raw, send};
+
+// The room that one send may take.
+const SEND_ROOM: usize = 1500;
+
+/// How one ask of a command ended.
+#[derive(Clone, Copy, Debug, PartialEq, Eq)]
+pub enum Got {
+    /// It was not sent, since the controller is off.
+    NoPower,
+    /// It was not sent, for want of room.
+    Short,
+    /// No reply came, or a success whose body has another length than was wanted.
+    NoReply,
+    /// A reply came, with this status.
+    Status(u16),
+}
+
+impl Got {
+    /// Whether it is a reply with this status.
+    pub fn has_status(self, status: u16) -> bool
+        ensures { (body : List ℕ) → result ≡ has_status status (got_of self body) }
+    {
+        match self {
+            Got::Status(other) => other == status,
+            _ => false,
+        }
+    }
+}
 
 /// Sends a request once; `packet` becomes its packet. At a status, `reply` is the reply, whose body stands behind the
 /// header's 8 bytes; a success has a body of `want` bytes. It takes at most 563 entries of the wire's room and one for
@@ -35,32 +65,42 @@ pub fn once<W: Wire>(
     if !w.power() {
         return Once::NoPower;
     }
-    write_request(command, version, body, packet);
-    let raw = send(w, packet, reply);
+    let request = Request {
+        command,
+        version,
+        body,
+    };
+    let heard = send_request(w, &request, want, packet, reply);
     if !w.power() {
         return Once::NoPower;
     }
-    match raw {
-        Raw::Reply => read_reply(want, reply),
-        Raw::Bad => Once::Bad,
-        Raw::Silent => Once::Silent,
-    }
+    heard.ending()
 }
 
-// What a reply says.
-fn read_reply(want: usize, reply: &Packet) -> Once
-    requires { IsTrue (is_response reply.now) }
-    ensures ending { ending_of result (drop 8 reply.now) ≡ said_by want (response_view reply.now) }
-    ensures want { result ≡ Once.Status 0 → length reply.now ≡ 8 + want }
+/// Sends a request once, where there is power, and room for it above `floor`.
+pub fn ask<W: Wire>(
+    w: &mut W,
+    request: &Request<'_>,
+    want: usize,
+    floor: usize,
+    packet: &mut Packet,
+    reply: &mut Packet,
+) -> Got
+    requires short { 8 + length request.now.body.now ≤ packet_limit (W.view w.old).bus }
+    requires plain { IsPlain (packet_of (request_view request.now)) }
+    requires sum { floor + 1500 ≤ usize.MAX }
+    ensures asks { AsksOn floor (request_view request.now) want (got_of result (drop 8 reply.new)) (W.view w.old)
+        (W.view w.new) }
+    ensures leaves { Leaves floor result (W.view w.new) }
 {
-    match decode_response(reply.as_slice()) {
-        Ok(response) => {
-            if response.status == status::SUCCESS && response.body.len() != want {
-                Once::Bad
-            } else {
-                Once::Status(response.status)
-            }
-        }
-        Err(_) => Once::Bad,
+    if !w.power() {
+        return Got::NoPower;
+    }
+    if w.spare() < floor + SEND_ROOM {
+        return Got::Short;
+    }
+    match send_request(w, request, want, packet, reply) {
+        Heard::Status(status) => Got::Status(status),
+        Heard::Bad | Heard::Silent => Got::NoReply,
     }
 }

@@ -1,4 +1,4 @@
-// How a request that was sent once ended.
+// How a request that was sent once ended, and how a command did.
 ghost use Rattle.std.specs.Prelude.{◌≡◌, ◌↔◌, IsTrue};
 
 use ec_types::status;
@@ -23,4 +23,19 @@ impl Once {
     {
         matches!(self, Once::Status(status::SUCCESS))
     }
+}
+
+/// How a command ended.
+#[derive(Clone, Copy, Debug, PartialEq, Eq)]
+pub enum Said {
+    /// It was answered with success.
+    Ok,
+    /// It was answered with another status; or, where it is `INVALID_PARAMETER`, one of three tries that say nothing was.
+    Status(u16),
+    /// The controller is off.
+    NoPower,
+    /// Three tries say nothing: whether the request was carried out is not known.
+    Upset,
+    /// There is too little room for another send.
+    Short,
 }
