@@ -1,0 +1,17 @@
+pub mod Parts
+pub mod Statuses
+pub mod Ticks
+pub mod HostRequests
+pub mod Waiting
+pub mod Asking
+pub mod Polling
+pub mod Answering
+pub mod Idling
+pub mod PastErase
+pub mod Trying
+pub mod Commanding
+pub mod Sized
+pub mod MoreRoom
+pub mod Opening
+pub mod RunPower
+pub mod Upsets

@@ -1,0 +1,5 @@
+pub mod Idle
+pub mod Carried
+pub mod Room
+pub mod Standing
+pub mod Commands
