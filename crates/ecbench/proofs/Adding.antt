@@ -19,6 +19,7 @@ use Rattle.ectool_lines.specs.Tools.{IsInRange}
 use Rattle.ectool_lines.specs.Requests.{commands_of}
 use Rattle.ectool_lines.specs.Texts.{LineEnd, printed}
 use Rattle.ectool_lines.specs.Asking.{AsksEach, Hears}
+use Rattle.host_transport.specs.Asking.{host_view}
 use Rattle.ectool_lines.specs.Running.{Carries, RunsTool, Appends}
 use Rattle.bench_io.specs.Printing.{Prints}
 use Rattle.bench_io.specs.declared.printing.PrintErr.{PrintErr}
@@ -189,13 +190,13 @@ line-adds number last line text old new (Traced wants marks said) =
 
 -- where the tables are told, commands that the host heard followed
 follows-told : (view new : WireView) (tool : Tool) (added : List Entry) (end : LineEnd) (before after : Option Table) → IsAgreed (record view { table = before }) → IsInRange tool →
-    AsksEach (Hears view.bus) view.on (commands_of (packet_limit view.bus) tool) added end new.on → RunsAlong added before after → FollowsEach (commands_of (packet_limit view.bus) tool) added end before after
+    AsksEach (Hears view.bus) (host_view view) (commands_of (packet_limit view.bus) tool) added end (host_view new) → RunsAlong added before after → FollowsEach (commands_of (packet_limit view.bus) tool) added end view.spare new.spare before after
 follows-told view new tool added end None None agreed within asks runs = tt
 follows-told view new tool added end None (Some b) agreed within asks runs = runs
 follows-told view new tool added end (Some a) None agreed within asks runs = runs
 follows-told view new tool added end (Some a) (Some b) agreed within asks runs =
     let ready : Ready view.bus view.on a = record { valid = agreed.valid; kind = agreed.kind_is; on_is = agreed.on_is } in
-    (each-followed view.on a b (commands_of (packet_limit view.bus) tool) added end new.on ready (tool-proper view.bus tool within) asks runs).asks
+    (each-followed (host_view view) a b (commands_of (packet_limit view.bus) tool) added end (host_view new) ready (tool-proper view.bus tool within) asks runs).asks
 
 -- a line whose commands were sent, behind its mark
 pub line-carried : (number : ℕ) (line text : List ℕ) (tool : Tool) (old marked new : WireView) → deed_of line ≡ Ok (Asks tool) → IsInRange tool → IsAgreed marked → MarksLine number old marked → Carries tool text marked new → CarriesLine number line text old new
@@ -208,7 +209,7 @@ line-carried number line text tool old marked new wants within agreed marks carr
       marked = marked;
       marks = marks;
       carries = carries;
-      follows = follows-told marked new tool carried.added carried.end marked.table new.table agreed within carried.asks carried.grows.run;
+      follows = follows-told (with_spare carries.spare marked) new tool carried.added carried.end marked.table new.table agreed within carried.asks carried.grows.run;
     }
 
 -- what was done with a line that sends commands

@@ -2,7 +2,7 @@ pub mod Doing
 pub mod CutCounts
 pub mod PlayLines
 pub mod Adding
-pub mod EventLemmas
+pub mod ReadLemmas
 mod FollowLemmas
 pub mod ServedLemmas
 pub mod ServedLines

@@ -27,7 +27,7 @@ use Rattle.ectool_lines.specs.Tools.{tool_of, IsInRange}
 use Rattle.ectool_lines.specs.Requests.{Asked, commands_of}
 use Rattle.ectool_lines.specs.Texts.{LineEnd, printed}
 use Rattle.ectool_lines.specs.Asking.{AsksEach}
-use Rattle.ectool_lines.specs.Following.{Follows}
+use Rattle.ectool_lines.specs.Following.{stands, Follows}
 use Rattle.ectool_lines.specs.Running.{Carries}
 use Rattle.ecbench.specs.Tracing.{trace_text}
 
@@ -70,8 +70,8 @@ pub record MarksLine (number : ℕ) (old new : WireView) : Type 0 where
 
 -- where the flash tells its bytes, each command goes as the definitions say from the state that it finds, where nothing
 -- disturbed it; and where it is not answered, something did
-abbrev pub FollowsEach : List Asked → List Entry → LineEnd → Option Table → Option Table → Type 0
-FollowsEach commands entries end = Changes (λ old new. AsksEach Follows old commands entries end new)
+abbrev pub FollowsEach : List Asked → List Entry → LineEnd → (room left : ℕ) → Option Table → Option Table → Type 0
+FollowsEach commands entries end room left = Changes (λ old new. AsksEach Follows (stands old room) commands entries end (stands new left))
 
 -- a line was marked, and its commands were sent in their order; this is its text, by how they ended
 pub record CarriesLine (number : ℕ) (text said : List ℕ) (old new : WireView) : Type 0 where
@@ -81,7 +81,7 @@ pub record CarriesLine (number : ℕ) (text said : List ℕ) (old new : WireView
   pub marked : WireView
   pub marks : MarksLine number old marked
   pub carries : Carries tool said marked new
-  pub follows : FollowsEach (commands_of (packet_limit marked.bus) tool) carries.carried.added carries.carried.end marked.table new.table
+  pub follows : FollowsEach (commands_of (packet_limit marked.bus) tool) carries.carried.added carries.carried.end carries.spare new.spare marked.table new.table
 
 -- a line was marked, and its event happened
 pub record HappensLine (number : ℕ) (happened : WorldEvent) (old new : WireView) : Type 0 where

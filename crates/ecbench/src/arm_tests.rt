@@ -58,13 +58,22 @@ fn armed_events_fall_before_their_calls(rt: HostRuntime) -> Result<(), Fail> {
 }
 
 #[test]
-fn a_changed_byte_is_not_answered(rt: HostRuntime) -> Result<(), Fail> {
+fn due_events_fall_in_the_order_of_arming(rt: HostRuntime) -> Result<(), Fail> {
+    let script = b"at 1 power off\nat 1 power on\nhello".as_slice();
+    let _entries = plays_whole(&rt, script, Exit::Done, b"ok\nok\nEC says hello!\n")?;
+    let script = b"at 1 power on\nat 1 power off\nhello".as_slice();
+    let _entries = plays_whole(&rt, script, Exit::Done, b"ok\nok\nEC has no power\n")?;
+    Ok(())
+}
+
+#[test]
+fn behind_a_changed_byte_a_command_is_tried_again(rt: HostRuntime) -> Result<(), Fail> {
     plays_by(
         &rt,
         &[b"f", b"--bus", b"spi"],
-        b"at 16 byte 0xfa\nhello\nhello",
+        b"at 16 byte 0xfa\nhello\nat 52 byte 0xfa\ntest 0 1 00\nhello",
         Exit::Done,
-        b"ok\nEC did not answer\nEC says hello!\n",
+        b"ok\nEC says hello!\nok\nEC did not answer\nEC says hello!\n",
     )
 }
 

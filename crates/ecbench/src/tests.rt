@@ -135,15 +135,16 @@ fn a_long_read_is_put_together(rt: HostRuntime) -> Result<(), Fail> {
 
 #[test]
 fn bus_lines_reach_the_bus(rt: HostRuntime) -> Result<(), Fail> {
-    // Eight blocks are erased; one is, while GET_COMMS_STATUS is put by hand; so is HELLO; and ports that nothing answers.
+    // A block is erased, while GET_COMMS_STATUS is put by hand and TEST_PROTOCOL is refused; eight are, for which HELLO waits; HELLO is
+    // put by hand; and ports that nothing answers.
     for (script, text) in [
         (
-            b"flashwrite 0x8000 00000000\nout 0x800 03521300000008000080000000100000\nout 0x204 da\ntick 1\nout 0x800 03f4090000000000\nout 0x204 da\ntick 1\nin 0x800 12\nflashread 0x8000 4\ntick 1\nout 0x800 03f4090000000000\nout 0x204 da\ntick 1\nin 0x800 12\nflashread 0x8000 4".as_slice(),
+            b"flashwrite 0x8000 00000000\nout 0x800 03521300000008000080000000100000\nout 0x204 da\ntick 1\nout 0x800 03f4090000000000\nout 0x204 da\ntick 1\nin 0x800 12\ntest 0 1 00\ntick 1\nout 0x800 03f4090000000000\nout 0x204 da\ntick 1\nin 0x800 12\nflashread 0x8000 4".as_slice(),
             b"wrote 4 bytes\nok\nok\nok\nok\nok\nok\n03f800000400000001000000\nEC result 16 (BUSY)\nok\nok\nok\nok\n03f900000400000000000000\nffffffff\n".as_slice(),
         ),
         (
-            b"out 0x800 03e21300000008000080000000800000\nout 0x204 da\ntick 1\nin 0x200 1\nhello\ntick 8\nresend\nresend\nflashread 0x8000 4".as_slice(),
-            b"ok\nok\nok\n08\nEC result 16 (BUSY)\nok\nok\nEC result 9 (UNAVAILABLE)\nffffffff\n".as_slice(),
+            b"out 0x800 03e21300000008000080000000800000\nout 0x204 da\ntick 1\nin 0x200 1\nhello\ntrace\nresend\nresend\nflashread 0x8000 4".as_slice(),
+            b"ok\nok\nok\n08\nEC says hello!\ntrace: 244 accesses, 18 ticks, 0 world events\nok\nEC result 9 (UNAVAILABLE)\nffffffff\n".as_slice(),
         ),
         (
             b"out 0x800 03fc010000000400ffffffff\nout 0x204 DA\ntick 1\nin 0x800 12".as_slice(),

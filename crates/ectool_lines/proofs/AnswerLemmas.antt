@@ -1,37 +1,48 @@
--- Commands of a line where nothing disturbs them: each is handled and answered.
-use Rattle.std.proofs.Common.{◌≡◌, refl, sym, ap, ◌∙◌, subst, ℕ, zero, suc, ◌+◌, ◌≤◌, ◌<◌, ◌==◌, Bool, true, false, not, ◌&&◌, ◌||◌, if◌then◌else◌, List, [], ◌∷◌, ◌++◌, length, map, arith}
-use Rattle.std.specs.List.{list_any}
+-- A command of a line where nothing disturbs it: what it comes to is said, and left behind.
+use Rattle.std.proofs.Common.{◌≡◌, refl, sym, ap, ◌∙◌, subst, ℕ, zero, suc, ◌+◌, ◌≤◌, ◌<◌, ◌==◌, Bool, true, false, not, ◌&&◌, ◌||◌, if◌then◌else◌, List, [], ◌∷◌, ◌++◌, length, MatchBool, arith}
 use Rattle.ec_types.specs.LittleEndian.{u16_at}
 use Rattle.ec_types.specs.Tables.{packet_limit}
 use Rattle.ec_types.specs.declared.bus.BusKind.{BusKind}
 use Rattle.ec_model.specs.declared.event.Entry.{Entry}
-use Rattle.ec_model.specs.Packet.{request_packet, response_packet}
-use Rattle.ec_model.specs.HostCalls.{HostCall, Did, Waited, calls_of, on_after}
+use Rattle.ec_model.specs.Asks.{Setting, Got, NoPower as AskOff, got, has_status}
+use Rattle.ec_model.specs.Packet.{RequestView, request_packet, response_packet}
+use Rattle.ec_model.specs.HostCalls.{HostView, view_after}
 use Rattle.ec_model.specs.Heard.{Reply}
-use Rattle.ec_model.specs.Table.{Table, Awake, Power, Off, On, Core, Valid, is_on, core_of}
-use Rattle.ec_model.specs.Answer.{Outcome, Answered, Restarts}
+use Rattle.ec_model.specs.Table.{Table, Awake, Power, Off, On, Core, Valid, is_on, core_of, table_of}
+use Rattle.ec_model.specs.Answer.{Outcome, Answered as Outcomes, Restarts}
 use Rattle.ec_model.specs.Handle.{handled}
 use Rattle.ec_model.specs.Syncable.{settled}
 use Rattle.ec_model.specs.Run.{IsRun}
-use Rattle.ec_model.specs.Upset.{is_upset, IsUndisturbed}
-use Rattle.ec_model.proofs.RunLaws.{run-valid, run-split}
+use Rattle.ec_model.specs.Tries.{Said, SaidNoPower, SaidShort, TryEnd, Final, OnStatus, TryLeads, TriesUpTo, try_end, Tries}
+use Rattle.ec_model.specs.Upset.{IsUndisturbed}
 use Rattle.ec_model.proofs.ValidRows.{IsCoreValid}
-use Rattle.ec_wire.specs.Quiet.{quiet_entry}
-use Rattle.exchange_laws.specs.AnyBus.{exchange_calls, IsExchangeOf}
+use Rattle.ec_wire.proofs.Calm.{determined}
+use Rattle.exchange_laws.specs.Resting.{is_waiting}
 use Rattle.exchange_laws.specs.Served.{IsPlain, IsAnswer}
 use Rattle.exchange_laws.proofs.CalmRun.{calm_lead}
-use Rattle.exchange_laws.proofs.AnyBus.{exchange-of, serves}
-use Rattle.exchange_laws.proofs.Settled.{bus-facts, settled-valid}
+use Rattle.exchange_laws.proofs.AnyBus.{exchange-of}
 use Rattle.exchange_laws.proofs.Plain.{plain-answered}
 use Rattle.exchange_laws.proofs.Response.{eq-true}
-use Rattle.host_transport.specs.Once.{Ending, Said, ended, heard_as, Bad}
+use Rattle.exchange_laws.proofs.Settled.{bus-facts}
+use Rattle.host_framing.specs.Room.{waiting_room}
+use Rattle.command_laws.specs.Carried.{tells_any}
+use Rattle.command_laws.specs.Commands.{IsProper as IsCommand}
+use Rattle.command_laws.specs.Room.{ask_room, command_room}
+use Rattle.command_laws.specs.Standing.{IsQuiet}
+use Rattle.command_laws.proofs.Answering.{open-sound, sound-valid}
+use Rattle.command_laws.proofs.Asking.{sent-told}
+use Rattle.command_laws.proofs.Commanding.{command-calm}
+use Rattle.command_laws.proofs.Opening.{HasAwake, awake-in, settled-on, opens}
+use Rattle.command_laws.proofs.MoreRoom.{seen, tries-more}
+use Rattle.command_laws.proofs.Parts.{quiet-on}
+use Rattle.command_laws.proofs.Waiting.{awake_of}
+use Rattle.host_transport.specs.Once.{Said as Told, Bad, SentOnce, NotSent, AskedOnce, ended, heard_as}
 use Rattle.ectool_lines.specs.declared.tool.Tool.{Tool}
 use Rattle.ectool_lines.specs.Tools.{IsInRange}
-use Rattle.ectool_lines.specs.Requests.{Asked, packet_of, first_of, count_of, command_of, commands_of}
-use Rattle.ectool_lines.specs.Texts.{LineEnd, Succeeded, Stopped}
-use Rattle.ectool_lines.specs.Asking.{AllSucceed, AsksEach, Hears}
-use Rattle.ectool_lines.specs.Answering.{IsAnswered, IsUnanswered, AnswersBy, Answers}
-use Rattle.ectool_lines.proofs.SendLemmas.{eq-of, limit-least, limit-most, command-short, command-plain}
+use Rattle.ectool_lines.specs.Requests.{Asked, request_of, packet_of, first_of, count_of, command_of, commands_of}
+use Rattle.ectool_lines.specs.Asking.{said_once, IsSentOnce, GoesBy, Hears}
+use Rattle.ectool_lines.specs.Answering.{outcome_by, room_by, IsAnswered, IsUnanswered, AnswersBy, Answers}
+use Rattle.ectool_lines.proofs.SendLemmas.{eq-of, limit-least, limit-most, command-short, command-plain, command-number}
 use Rattle.ectool_lines.proofs.WantLemmas.{HasWanted, command-wanted}
 
 -- a controller on this bus that is on or off
@@ -44,139 +55,170 @@ pub record Ready (bus : BusKind) (on : Bool) (table : Table) : Type 0 where
 pub record IsProper (bus : BusKind) (asked : Asked) : Type 0 where
   pub plain : IsPlain (packet_of asked)
   pub short : length (packet_of asked) ≤ packet_limit bus
+  pub number : asked.command < 65536
+  pub body : length asked.body < 65536
   pub wanted : (core : Core) → IsCoreValid core → HasWanted asked.want (handled core (packet_limit bus) (packet_of asked))
 
--- neither of two lists of entries is disturbed
-pub calm-both : (first second : List Entry) → IsUndisturbed (first ++ second) → IsUndisturbed first × IsUndisturbed second
-calm-both [] second calm = (refl, calm)
-calm-both (entry ∷ first) second calm = later (is_upset entry) (calm-both first second) calm
-  where
-    later : (here : Bool) → (IsUndisturbed (first ++ second) → IsUndisturbed first × IsUndisturbed second) → (here || list_any is_upset (first ++ second)) ≡ false →
-        ((here || list_any is_upset first) ≡ false) × (list_any is_upset second ≡ false)
-    later true rest same = cc
-    later false rest same = rest same
+-- what is wanted of an outcome that is known
+wanted-of : (want : ℕ) (outcome : Outcome) (after : Core) (status : ℕ) (body : List ℕ) → outcome ≡ Outcomes after status body → HasWanted want outcome → (status < 65536) × (status ≡ 0 → length body ≡ want)
+wanted-of want outcome after status body same wanted = subst (HasWanted want) same wanted
 
--- the controller stays on in quiet calls
-pub quiet-on : (calls : List HostCall) (on : Bool) → on_after (map quiet_entry calls) on ≡ on
-quiet-on [] on = refl
-quiet-on (Did access byte ∷ calls) on = quiet-on calls on
-quiet-on (Waited ∷ calls) on = quiet-on calls on
+-- such a command, where it is tried
+tried-proper : (bus : BusKind) (asked : Asked) → tells_any asked.command ≡ false → IsProper bus asked → IsCommand bus (request_of asked) asked.want
+tried-proper bus asked steady proper =
+    record {
+      fits = record { plain = proper.plain; short = proper.short };
+      number = proper.number;
+      body = proper.body;
+      steady = steady;
+      wanted = λ core after state body valid kind same.
+          (wanted-of asked.want (handled core (packet_limit bus) (packet_of asked)) after 0 body same (proper.wanted core (bus-facts (table_of core state) (awake_of core state) valid refl).core)).1 refl;
+    }
 
 -- a response's status
 status-read : (status : ℕ) (body : List ℕ) → status < 65536 → u16_at 2 (response_packet status body) ≡ status
 status-read status body small = omega (arith, small)
 
 -- a status by two tests
-said-by : (status : ℕ) (body : List ℕ) (success fits : Bool) → (success ≡ true → fits ≡ true) → (if success && not fits then Bad else Said status body) ≡ Said status body
-said-by status body true true same = refl
-said-by status body true false same = absurd (let e = same refl in cc)
-said-by status body false fits same = refl
+told-by : (status : ℕ) (body : List ℕ) (success fits : Bool) → (success ≡ true → fits ≡ true) → (if success && not fits then Bad else Told status body) ≡ Told status body
+told-by status body true true same = refl
+told-by status body true false same = absurd (let e = same refl in cc)
+told-by status body false fits same = refl
 
 -- what is heard of a response that has the bytes that are wanted
-heard-said : (want status : ℕ) (body : List ℕ) → status < 65536 → (status ≡ 0 → length body ≡ want) → heard_as want (Reply (response_packet status body)) ≡ Said status body
-heard-said want status body small wanted =
+heard-told : (want status : ℕ) (body : List ℕ) → status < 65536 → (status ≡ 0 → length body ≡ want) → heard_as want (Reply (response_packet status body)) ≡ Told status body
+heard-told want status body small wanted =
     let read = status-read status body small in
-    rw read (said-by status body (status == 0) (length body == want) (λ success. eq-true (length body) want (wanted (eq-of status 0 success))))
+    rw read (told-by status body (status == 0) (length body == want) (λ success. eq-true (length body) want (wanted (eq-of status 0 success))))
 
--- a command that was answered by a controller that is on
-pub record IsHeard (bus : BusKind) (table : Table) (asked : Asked) (entries : List Entry) (ending : Ending) (after : Bool) (last : Table) : Type 0 where
-  pub answers : Answers table asked entries ending last
-  pub ready : Ready bus after last
+-- a request that was sent once to a controller that is on
+once-answered : (table last : Table) (has : HasAwake (settled table).power) (asked : Asked) (entries : List Entry) (said : Said) (outcome : Outcome) → Valid table → tells_any asked.command ≡ true → IsProper table.kind asked → IsQuiet entries → IsRun table entries last →
+    (sent : IsSentOnce table.kind true asked entries said) → handled (core_of (settled table) has.awake) (packet_limit table.kind) (packet_of asked) ≡ outcome → IsAnswer outcome → IsAnswered table asked entries said last
+once-answered table last has asked entries said Restarts valid once proper quiet run sent same answer = absurd answer
+once-answered table last has asked entries said (Outcomes after status body) valid once proper quiet run sent same answer =
+    let bus = table.kind in
+    let core = core_of (settled table) has.awake in
+    let open_ = opens table has valid in
+    let asks : SentOnce bus (packet_of asked) asked.want entries sent.ending = sent.once in
+    let wanted = wanted-of asked.want (handled core (packet_limit bus) (packet_of asked)) after status body same (proper.wanted core (sound-valid bus core (open-sound bus core table open_))) in
+    let told = sent-told bus (request_of asked) asked.want core after status body table entries (got asked.want asks.heard) last open_ (record { plain = proper.plain; short = proper.short }) quiet run
+    (record { is = same; small = wanted.0; wanted = wanted.1 }) (record { heard = asks.heard; sent = asks.sent; end_is = refl }) in
+    let exchange = exchange-of table has.awake (packet_of asked) entries asks.heard last after status body valid has.on proper.plain proper.short asks.sent run quiet.calm quiet.steps same in
+    let heard : sent.ending ≡ Told status body =
+    asks.ending_is ∙ ap (λ (o : Bool). ended o (heard_as asked.want asks.heard)) (quiet-on entries true quiet) ∙ ap (heard_as asked.want) exchange.heard_is ∙ heard-told asked.want status body wanted.0 wanted.1 in
+    let room : room_by true bus (request_of asked) core ≡ _ = ap (λ (o : Outcome). ask_room bus (request_of asked) o) same in
+    record {
+      awake = has.awake;
+      after = after;
+      status = status;
+      body = body;
+      on = has.on;
+      comes = ap (λ (test : Bool). outcome_by test (packet_limit bus) (request_of asked) core) once ∙ same;
+      said_is = sent.said_is ∙ ap said_once heard;
+      entries_are = determined entries quiet.steps quiet.calm;
+      leads = calm_lead table entries last quiet.calm run;
+      takes = told.takes ∙ ap (λ (n : ℕ). n + waiting_room bus (is_waiting table.power)) (sym room ∙ ap (λ (test : Bool). room_by test bus (request_of asked) core) (sym once));
+      leaves = (told.at).leaves;
+      kind = (told.at).kind_is;
+    }
+
+-- more room than any command takes
+plenty : (spare room : ℕ) → 1500 + room ≤ spare + (1500 + room)
+plenty spare room = omega arith
+
+-- a command that was tried on a controller that is on
+tried-answered : (table last : Table) (has : HasAwake (settled table).power) (asked : Asked) (entries : List Entry) (said : Said) (spare : ℕ) → Valid table → tells_any asked.command ≡ false → IsProper table.kind asked → IsQuiet entries → IsRun table entries last → ¬ (said ≡ SaidShort) →
+    Tries (record { bus = table.kind; floor = 0 }) (request_of asked) asked.want (seen true spare) entries said → IsAnswered table asked entries said last
+tried-answered table last has asked entries said spare valid tried proper quiet run long tries =
+    let bus = table.kind in
+    let core = core_of (settled table) has.awake in
+    let waiting = waiting_room bus (is_waiting table.power) in
+    let room = command_room bus (request_of asked) core + waiting in
+    let many = spare + (1500 + room) in
+    let more = tries-more (record { bus = bus; floor = 0 }) (request_of asked) asked.want true spare many entries said (omega arith) long tries in
+    let done = command-calm (record { bus = bus; floor = 0 }) (request_of asked) asked.want (seen true many) core table entries said last waiting (opens table has valid) (tried-proper bus asked tried proper) refl (record { on = refl; enough = plenty spare room }) quiet run more in
+    record {
+      awake = has.awake;
+      after = done.after;
+      status = done.status;
+      body = done.body;
+      on = has.on;
+      comes = ap (λ (test : Bool). outcome_by test (packet_limit bus) (request_of asked) core) tried ∙ done.is;
+      said_is = done.said_is;
+      entries_are = determined entries quiet.steps quiet.calm;
+      leads = calm_lead table entries last quiet.calm run;
+      takes = done.takes ∙ ap (λ (n : ℕ). n + waiting) (ap (λ (test : Bool). room_by test bus (request_of asked) core) (sym tried));
+      leaves = (done.at).leaves;
+      kind = (done.at).kind_is;
+    }
+
+-- a command, by the way that it goes, on a controller that is on
+answers-on : (once : Bool) (table last : Table) (first : Awake) (asked : Asked) (view : HostView) (entries : List Entry) (said : Said) → table.power ≡ On first → Valid table → view.on ≡ true → tells_any asked.command ≡ once → IsProper table.kind asked → IsQuiet entries → IsRun table entries last → ¬ (said ≡ SaidShort) →
+    GoesBy once table.kind view asked entries said → IsAnswered table asked entries said last
+answers-on true table last first asked view entries said power valid on once proper quiet run long goes =
+    let has = awake-in (settled table).power (settled-on table first power) in
+    let core = core_of (settled table) has.awake in
+    once-answered table last has asked entries said (handled core (packet_limit table.kind) (packet_of asked)) valid once proper quiet run (subst (λ (o : Bool). IsSentOnce table.kind o asked entries said) on goes) refl
+    (plain-answered (packet_of asked) core (packet_limit table.kind) proper.plain)
+answers-on false table last first asked view entries said power valid on tried proper quiet run long goes =
+    tried-answered table last (awake-in (settled table).power (settled-on table first power)) asked entries said view.spare valid tried proper quiet run long
+    (subst (λ (o : Bool). Tries (record { bus = table.kind; floor = 0 }) (request_of asked) asked.want (seen o view.spare) entries said) on goes)
+
+-- nothing is tried without power
+record IsNothing (entries : List Entry) (said : Said) : Type 0 where
+  pub none : entries ≡ []
+  pub said_is : said ≡ SaidNoPower
+
+nothing-both : (entries first rest : List Entry) → entries ≡ first ++ rest → first ≡ [] → rest ≡ [] → entries ≡ []
+nothing-both entries first rest parts one other = parts ∙ ap (λ (front : List Entry). front ++ rest) one ∙ other
+
+-- nothing follows an ask without power
+nothing-behind : (status : ℕ) (told end : Got) (more : Type 0) (rest : List Entry) → told ≡ AskOff → OnStatus status told more rest end → (rest ≡ []) × (end ≡ AskOff)
+nothing-behind status told end more rest off on =
+    let over : (rest ≡ []) × (end ≡ told) = subst (λ (test : Bool). MatchBool test more ((rest ≡ []) × (end ≡ told))) (ap (has_status status) off) on in
+    (over.0, over.1 ∙ off)
+
+tries-off : (setting : Setting) (request : RequestView) (want spare : ℕ) (entries : List Entry) (said : Said) → Tries setting request want (seen false spare) entries said → IsNothing entries said
+tries-off setting request want spare entries said (first, rest, end, parts, once, leads) =
+    let past = once.asked in
+    let asked = past.asked in
+    let again = nothing-behind 16 past.told once.told _ past.rest asked.1 past.again in
+    let resent = nothing-behind 8 once.told once.last _ once.rest again.1 once.resent in
+    let none : first ≡ [] = nothing-both first once.first once.rest once.parts (nothing-both once.first past.first past.rest past.parts asked.0 again.0) resent.0 in
+    let off : end ≡ Final SaidNoPower = once.end_is ∙ by (has_status 8 once.told) once.last resent.1 in
+    let over = subst (λ (e : TryEnd). TryLeads e (λ (another : Bool). TriesUpTo 2 (false || another) setting request want (view_after first (seen false spare)) rest said) rest said) off leads in
+    record { none = nothing-both entries first rest parts none over.0; said_is = over.1 }
+  where
+    by : (resent : Bool) (last : Got) → last ≡ AskOff → try_end resent last ≡ Final SaidNoPower
+    by resent last same = ap (try_end resent) same
+
+-- a command, by the way that it goes, on a controller that is off
+answers-off : (once : Bool) (table last : Table) (asked : Asked) (view : HostView) (entries : List Entry) (said : Said) → view.on ≡ false → IsRun table entries last → GoesBy once table.kind view asked entries said → IsUnanswered table entries said last
+answers-off true table last asked view entries said off run goes =
+    let unsent : NotSent entries goes.ending = subst (λ (o : Bool). AskedOnce o table.kind (packet_of asked) asked.want entries goes.ending) off goes.once in
+    record { none = unsent.none; said_is = goes.said_is ∙ ap said_once unsent.ending_is; same = subst (λ (e : List Entry). IsRun table e last) unsent.none run }
+answers-off false table last asked view entries said off run goes =
+    let nothing = tries-off (record { bus = table.kind; floor = 0 }) (request_of asked) asked.want view.spare entries said
+    (subst (λ (o : Bool). Tries (record { bus = table.kind; floor = 0 }) (request_of asked) asked.want (seen o view.spare) entries said) off goes) in
+    record { none = nothing.none; said_is = nothing.said_is; same = subst (λ (e : List Entry). IsRun table e last) nothing.none run }
 
 -- the same by the state that the table has
-answers-on : (table last : Table) (awake : Awake) (asked : Asked) (entries : List Entry) (ending : Ending) → table.power ≡ On awake → IsAnswered table asked entries ending last → Answers table asked entries ending last
-answers-on table last awake asked entries ending on answered = subst (λ (power : Power). AnswersBy power table asked entries ending last) (sym on) answered
-
-answers-off : (table last : Table) (asked : Asked) (entries : List Entry) (ending : Ending) → table.power ≡ Off → IsUnanswered table entries ending last → Answers table asked entries ending last
-answers-off table last asked entries ending off unanswered = subst (λ (power : Power). AnswersBy power table asked entries ending last) (sym off) unanswered
-
--- a command that was handled on the settled table
-answered-by : (table last : Table) (first awake : Awake) (asked : Asked) (entries : List Entry) (ending : Ending) (after : Bool) (outcome : Outcome) → table.power ≡ On first → (settled table).power ≡ On awake → handled (core_of (settled table) awake) (packet_limit table.kind) (packet_of asked) ≡ outcome → IsAnswer outcome → HasWanted asked.want outcome →
-    Ready table.kind true table → IsProper table.kind asked → Hears table.kind true asked entries ending after → IsRun table entries last → IsUndisturbed entries → IsHeard table.kind table asked entries ending after last
-answered-by table last first awake asked entries ending after Restarts power on same answer wanted ready proper hears run calm = absurd answer
-answered-by table last first awake asked entries ending after (Answered new status body) power on same answer wanted ready proper hears run calm =
-    let sent = hears.once in
-    let response = response_packet status body in
-    let exchange : IsExchangeOf table (packet_of asked) response new entries sent.heard last =
-    exchange-of table awake (packet_of asked) entries sent.heard last new status body ready.valid on proper.plain proper.short sent.sent run calm hears.steps same in
-    let still : on_after entries true ≡ true = ap (λ (e : List Entry). on_after e true) exchange.entries ∙ quiet-on (exchange_calls table (packet_of asked) response) true in
-    let heard : ended (on_after entries true) (heard_as asked.want sent.heard) ≡ Said status body =
-    ap (λ (o : Bool). ended o (heard_as asked.want sent.heard)) still ∙ ap (heard_as asked.want) exchange.heard_is ∙ heard-said asked.want status body wanted.0 wanted.1 in
-    record {
-      answers = answers-on table last first asked entries ending power (record {
-        awake = awake;
-        after = new;
-        status = status;
-        body = body;
-        on = on;
-        handled_is = same;
-        entries_are = exchange.entries;
-        ending_is = sent.ending_is ∙ heard;
-        leads = exchange.leads;
-        leaves = exchange.leaves;
-        kind = exchange.kind;
-      });
-      ready = record {
-        valid = run-valid table entries last ready.valid run;
-        kind = exchange.kind;
-        on_is = ap (λ (t : Table). is_on t.power) exchange.leaves.same ∙ sym (hears.on_is ∙ still);
-      };
-    }
-
--- one command, by the state of the controller
-heard-by : (power : Power) (on : Bool) (table last : Table) (asked : Asked) (entries : List Entry) (ending : Ending) (after : Bool) → table.power ≡ power → is_on power ≡ on → Ready table.kind on table → IsProper table.kind asked → Hears table.kind on asked entries ending after → IsRun table entries last → IsUndisturbed entries →
-    IsHeard table.kind table asked entries ending after last
-heard-by (On first) true table last asked entries ending after power on ready proper hears run calm =
-    let sent = hears.once in
-    let packet = packet_of asked in
-    let limit = packet_limit table.kind in
-    let served = serves table.kind table first packet (calls_of entries) sent.heard last ready.valid power refl proper.plain proper.short sent.sent.1 (calm_lead table entries last calm run) in
-    let core = core_of (settled table) served.awake in
-    let facts = bus-facts (settled table) served.awake (settled-valid table ready.valid) served.on in
-    answered-by table last first served.awake asked entries ending after (handled core limit packet) power served.on refl (plain-answered packet core limit proper.plain) (proper.wanted core facts.core) ready proper hears run calm
-heard-by Off false table last asked entries ending after power off ready proper hears run calm =
-    let unsent = hears.once in
-    let same : last ≡ table = subst (λ (e : List Entry). IsRun table e last) unsent.none run in
-    let still : after ≡ false = hears.on_is ∙ ap (λ (e : List Entry). on_after e false) unsent.none in
-    record {
-      answers = answers-off table last asked entries ending power (record { none = unsent.none; ending_is = unsent.ending_is; same = same });
-      ready = subst (λ (o : Bool). Ready table.kind o last) (sym still) (subst (λ (t : Table). Ready table.kind false t) (sym same) ready);
-    }
-heard-by (On first) false table last asked entries ending after power on ready proper hears run calm = cc
-heard-by Off true table last asked entries ending after power off ready proper hears run calm = cc
+answers-by : (power : Power) (table last : Table) (asked : Asked) (view : HostView) (entries : List Entry) (said : Said) (after : HostView) → table.power ≡ power → is_on power ≡ view.on → Valid table → IsProper table.kind asked → Hears table.kind view asked entries said after → IsRun table entries last → IsUndisturbed entries →
+    ¬ (said ≡ SaidShort) → AnswersBy power table asked entries said last
+answers-by Off table last asked view entries said after power on valid proper hears run calm long = answers-off (tells_any asked.command) table last asked view entries said (sym on) run hears.goes
+answers-by (On first) table last asked view entries said after power on valid proper hears run calm long =
+    answers-on (tells_any asked.command) table last first asked view entries said power valid (sym on) refl proper (record { calm = calm; steps = hears.steps }) run long hears.goes
 
 -- one command on the bus of its controller
-pub heard : (bus : BusKind) (on : Bool) (table last : Table) (asked : Asked) (entries : List Entry) (ending : Ending) (after : Bool) → Ready bus on table → IsProper bus asked → Hears bus on asked entries ending after → IsRun table entries last → IsUndisturbed entries → IsHeard bus table asked entries ending after last
-heard bus on table last asked entries ending after ready =
-    subst (λ (own : BusKind). Ready own on table → IsProper own asked → Hears own on asked entries ending after → IsRun table entries last → IsUndisturbed entries → IsHeard own table asked entries ending after last) ready.kind
-    (λ own proper hears run calm. heard-by table.power on table last asked entries ending after refl ready.on_is own proper hears run calm) ready
+pub heard : (bus : BusKind) (view : HostView) (table last : Table) (asked : Asked) (entries : List Entry) (said : Said) (after : HostView) → Ready bus view.on table → IsProper bus asked → Hears bus view asked entries said after → IsRun table entries last → IsUndisturbed entries → ¬ (said ≡ SaidShort) → Answers table asked entries said last
+heard bus view table last asked entries said after ready proper hears run calm long =
+    let own = sym ready.kind in
+    answers-by table.power table last asked view entries said after refl ready.on_is ready.valid (subst (λ (b : BusKind). IsProper b asked) own proper) (subst (λ (b : BusKind). Hears b view asked entries said after) own hears) run calm long
 
 -- each of some commands is proper
 abbrev pub AreProper : BusKind → List Asked → Type 0
 AreProper bus [] = Unit {0}
 AreProper bus (asked ∷ more) = IsProper bus asked × AreProper bus more
-
--- some commands, each of which was answered with success
-record AllAnswered (bus : BusKind) (table : Table) (commands : List Asked) (entries : List Entry) (bodies : List (List ℕ)) (after : Bool) (last : Table) : Type 0 where
-  pub succeeded : AllSucceed Answers table commands entries bodies last
-  pub ready : Ready bus after last
-
-all-answered : (bus : BusKind) (on : Bool) (table last : Table) (commands : List Asked) (entries : List Entry) (bodies : List (List ℕ)) (after : Bool) → Ready bus on table → AreProper bus commands → AllSucceed (Hears bus) on commands entries bodies after → IsRun table entries last → IsUndisturbed entries →
-    AllAnswered bus table commands entries bodies after last
-all-answered bus on table last [] entries bodies after ready proper (none, no_body, still) run calm =
-    let same : last ≡ table = subst (λ (e : List Entry). IsRun table e last) none run in
-    record { succeeded = (none, no_body, same); ready = subst (λ (o : Bool). Ready bus o last) (sym still) (subst (λ (t : Table). Ready bus on t) (sym same) ready) }
-all-answered bus on table last (asked ∷ commands) entries bodies after ready proper (first, rest, body, others, middle, entries_are, bodies_are, hears, more) run calm =
-    let split = run-split table last first rest (subst (λ (e : List Entry). IsRun table e last) entries_are run) in
-    let calms = calm-both first rest (subst (λ (e : List Entry). IsUndisturbed e) entries_are calm) in
-    let here = heard bus on table split.0 asked first (Said 0 body) middle ready proper.0 hears split.1 calms.0 in
-    let behind = all-answered bus middle split.0 last commands rest others after here.ready proper.1 more split.2 calms.1 in
-    record { succeeded = (first, rest, body, others, split.0, entries_are, bodies_are, here.answers, behind.succeeded); ready = behind.ready }
-
--- the commands of a line, each of which was answered, or met a controller that is off
-pub record EachAnswered (bus : BusKind) (table : Table) (commands : List Asked) (entries : List Entry) (end : LineEnd) (after : Bool) (last : Table) : Type 0 where
-  pub asks : AsksEach Answers table commands entries end last
-  pub ready : Ready bus after last
 
 -- the proper ones before a command, and itself
 pub proper-split : (bus : BusKind) (before : List Asked) (asked : Asked) (after : List Asked) → AreProper bus (before ++ asked ∷ after) → AreProper bus before × IsProper bus asked
@@ -184,35 +226,6 @@ proper-split bus [] asked after proper = (tt, proper.0)
 proper-split bus (first ∷ before) asked after proper =
     let rest = proper-split bus before asked after proper.1 in
     ((proper.0, rest.0), rest.1)
-
-pub each-answered : (bus : BusKind) (on : Bool) (table last : Table) (commands : List Asked) (entries : List Entry) (end : LineEnd) (after : Bool) → Ready bus on table → AreProper bus commands → AsksEach (Hears bus) on commands entries end after → IsRun table entries last → IsUndisturbed entries →
-    EachAnswered bus table commands entries end after last
-each-answered bus on table last commands entries (Succeeded bodies) after ready proper asks run calm =
-    let all = all-answered bus on table last commands entries bodies after ready proper asks run calm in
-    record { asks = all.succeeded; ready = all.ready }
-each-answered bus on table last commands entries (Stopped ending) after ready proper stops run calm =
-    let split = run-split table last stops.first stops.last (subst (λ (e : List Entry). IsRun table e last) stops.entries_are run) in
-    let calms = calm-both stops.first stops.last (subst (λ (e : List Entry). IsUndisturbed e) stops.entries_are calm) in
-    let propers = proper-split bus stops.before stops.asked stops.after (subst (AreProper bus) stops.commands_are proper) in
-    let front = all-answered bus on table split.0 stops.before stops.first stops.bodies stops.middle ready propers.0 stops.succeeded split.1 calms.0 in
-    let here = heard bus stops.middle split.0 last stops.asked stops.last ending after front.ready propers.1 stops.asks_last split.2 calms.1 in
-    record {
-      asks = record {
-        before = stops.before;
-        asked = stops.asked;
-        after = stops.after;
-        first = stops.first;
-        last = stops.last;
-        bodies = stops.bodies;
-        middle = split.0;
-        commands_are = stops.commands_are;
-        entries_are = stops.entries_are;
-        succeeded = front.succeeded;
-        asks_last = here.answers;
-        refused = stops.refused;
-      };
-      ready = here.ready;
-    }
 
 -- a short body makes a short packet
 packet-short : (limit command version : ℕ) (body : List ℕ) → 8 + length body ≤ limit → length (request_packet command version body) ≤ limit
@@ -235,9 +248,12 @@ command-proper bus tool within k =
     let least = limit-least bus in
     let most = limit-most bus in
     let asked = command_of limit tool k in
+    let short = command-short limit tool k least within in
     record {
       plain = command-plain limit tool k least most within;
-      short = packet-short limit asked.command asked.version asked.body (command-short limit tool k least within);
+      short = packet-short limit asked.command asked.version asked.body short;
+      number = command-number limit tool k;
+      body = omega (arith, short, most);
       wanted = λ core valid. command-wanted limit tool k core least most valid within;
     }
 

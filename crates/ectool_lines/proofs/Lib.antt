@@ -1,5 +1,5 @@
 pub mod SendLemmas
 pub mod WantLemmas
-pub mod AnswerLemmas
 pub mod ReplyLemmas
 pub mod Padding
+pub mod AnswerLemmas

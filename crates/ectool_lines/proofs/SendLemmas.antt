@@ -1,5 +1,5 @@
 -- Commands of a line, one after the other.
-use Rattle.std.proofs.Common.{◌≡◌, refl, sym, ap, ◌∙◌, subst, ℕ, zero, suc, ◌+◌, ◌-◌, ◌*◌, ◌/◌, ◌%◌, ◌^◌, ◌==◌, ◌<◌, ◌≤◌, Bool, true, false, ◌&&◌, List, [], ◌∷◌, ◌++◌, length, take, drop, append_assoc, append-nil, ◌⊎◌, inl, inr, arith}
+use Rattle.std.proofs.Common.{◌≡◌, refl, sym, ap, ◌∙◌, subst, ℕ, zero, suc, ◌+◌, ◌-◌, ◌*◌, ◌/◌, ◌%◌, ◌^◌, ◌==◌, ◌<◌, ◌≤◌, Bool, true, false, not, ◌&&◌, if◌then◌else◌, List, [], ◌∷◌, ◌++◌, length, take, drop, append_assoc, append-nil, ◌⊎◌, inl, inr, arith}
 use Rattle.std.proofs.Math.Nat.{div-le_of_le-mul, div-mul-le_self, mul-le-mul_right, suc-mul}
 use Rattle.std.proofs.lemmas.Bool.{cases_lt}
 use Rattle.std.proofs.lemmas.Bool.Decides.{eqb_tells}
@@ -13,27 +13,36 @@ use Rattle.ec_types.specs.LittleEndian.{u32_bytes}
 use Rattle.ec_model.specs.Bodies.{flash_write_ask, test_ask, vboot_hash_ask}
 use Rattle.ec_model.specs.InfoRows.{zero_padded}
 use Rattle.ec_model.specs.declared.event.Entry.{Entry}
+use Rattle.ec_model.specs.Heard.{Heard, Reply, Bad as HeardBad, Silent as HeardSilent}
+use Rattle.ec_model.specs.HostCalls.{on_after}
+use Rattle.ec_model.specs.Packet.{response_view}
 use Rattle.ec_wire.specs.Calls.{WireView, Grows}
 use Rattle.ec_wire.proofs.Growth.{grows-nil, grows-then}
 use Rattle.exchange_laws.specs.Served.{IsPlain, is_cold_body}
 use Rattle.exchange_laws.proofs.Spelled.{plain-spelled}
-use Rattle.host_transport.specs.Once.{Ending, Said, AskedOnce, AsksOnce}
-use Rattle.host_transport.specs.Ends.{ending_of}
-use Rattle.host_transport.specs.declared.ending.Once.{Once}
-use Rattle.host_transport.specs.declared.ending.Once.TheVariants.{Status, Bad, Silent, NoPower}
+use Rattle.ec_model.specs.HostCalls.{HostView}
+use Rattle.ec_model.specs.Tries.{Said, Answered}
+use Rattle.command_laws.specs.Carried.{tells_any}
+use Rattle.command_laws.proofs.Sized.{tries-sized}
+use Rattle.host_transport.specs.Asking.{host_view}
+use Rattle.host_transport.specs.Once.{Ending, Said as Told, Bad as BadEnding, Silent as SilentEnding, NoPower as OffEnding, AskedOnce, AsksOnce, ended, heard_as}
+use Rattle.host_transport.specs.Trying.{said_of, TriesOn}
+use Rattle.host_transport.specs.declared.ending.Said.{Said as SaidOf}
+use Rattle.host_transport.specs.declared.ending.Said.TheVariants.{Ok, Status, NoPower, Upset, Short}
+use Rattle.host_transport.proofs.WireParts.{view-after}
 use Rattle.ectool_lines.specs.declared.tool.Tool.{Tool}
 use Rattle.ectool_lines.specs.declared.tool.Tool.TheVariants.{Hello, Version, ChipInfo, CmdVersions, ProtoInfo, FlashInfo, RegionInfo, FlashRead, FlashWrite, FlashProtect, Hash, HashAbort, HashStart, HashRange, Sysinfo, Reboot, Test, Resend}
 use Rattle.ectool_lines.specs.Tools.{is_reboot, IsInRange}
-use Rattle.ectool_lines.specs.Requests.{Asked, packet_of, first_of, parts_of, count_of, image_offset, command_of, commands_of}
-use Rattle.ectool_lines.specs.Sending.{most_text}
+use Rattle.ectool_lines.specs.Requests.{Asked, request_of, packet_of, first_of, parts_of, count_of, image_offset, command_of, commands_of}
+use Rattle.ectool_lines.specs.Sending.{most_text, IsReply}
 use Rattle.ectool_lines.specs.Texts.{Succeeded, Stopped, printed, replies_text, reply_text, closing_text, refusal_text}
-use Rattle.ectool_lines.specs.Asking.{AllSucceed, IsSuccess, StopsAt, Hears, CarriesTool}
+use Rattle.ectool_lines.specs.Asking.{AllSucceed, IsSuccess, StopsAt, said_once, IsSentOnce, GoesBy, Hears, HearsOn, CarriesTool}
 
 -- one more success behind others
-pub succeed-more : {State : Type 0} (asks : State → Asked → List Entry → Ending → State → Type 0) (old : State) (commands : List Asked) (entries : List Entry) (bodies : List (List ℕ)) (middle : State) (asked : Asked) (last : List Entry) (body : List ℕ) (new : State) →
-    AllSucceed asks old commands entries bodies middle → asks middle asked last (Said 0 body) new → AllSucceed asks old (commands ++ asked ∷ []) (entries ++ last) (bodies ++ body ∷ []) new
+pub succeed-more : {State : Type 0} (asks : State → Asked → List Entry → Said → State → Type 0) (old : State) (commands : List Asked) (entries : List Entry) (bodies : List (List ℕ)) (middle : State) (asked : Asked) (last : List Entry) (body : List ℕ) (new : State) →
+    AllSucceed asks old commands entries bodies middle → asks middle asked last (Answered 0 body) new → AllSucceed asks old (commands ++ asked ∷ []) (entries ++ last) (bodies ++ body ∷ []) new
 succeed-more asks old [] entries bodies middle asked last body new before here =
-    (last, [], body, [], new, ap (λ (front : List Entry). front ++ last) before.0 ∙ sym (append-nil last), ap (λ (front : List (List ℕ)). front ++ body ∷ []) before.1, subst (λ (state : _). asks state asked last (Said 0 body) new) before.2 here, (refl, refl, refl))
+    (last, [], body, [], new, ap (λ (front : List Entry). front ++ last) before.0 ∙ sym (append-nil last), ap (λ (front : List (List ℕ)). front ++ body ∷ []) before.1, subst (λ (state : _). asks state asked last (Answered 0 body) new) before.2 here, (refl, refl, refl))
 succeed-more asks old (command ∷ commands) entries bodies middle asked last body new (first, rest, said, others, between, entries_are, bodies_are, asks_first, more) here = (
   first,
   rest ++ last,
@@ -66,51 +75,135 @@ pub first_of-split : {T : Type 0} (f : ℕ → T) (k count : ℕ) → k < count 
 first_of-split f k zero small = absurd (omega (arith, small))
 first_of-split f k (suc count) small = behind-by f k count (elim (cases_lt k count) [ inl less ↦ inr (first_of-split f k count less) | inr more ↦ inl (omega (arith, small, more)) ])
 
--- an answer that is no success
-pub no-success : (ended : Once) (body : List ℕ) → (ended ≡ Status 0 → ⊥) → ¬ IsSuccess (ending_of ended body)
-no-success (Status status) body other = λ success. other (let same = success.1 in cc)
-no-success Bad body other = λ success. let same = success.1 in cc
-no-success Silent body other = λ success. let same = success.1 in cc
-no-success NoPower body other = λ success. let same = success.1 in cc
+-- two numbers that a test finds equal
+pub eq-of : (a b : ℕ) → (a == b) ≡ true → a ≡ b
+eq-of a b same = grind (arith, eqb_tells)
+
+-- the parts of an end
+abbrev told_status : Ending → ℕ
+told_status (Told status body) = status
+told_status other = 0
+
+abbrev told_body : Ending → List ℕ
+told_body (Told status body) = body
+told_body other = []
+
+abbrev said_body : Said → List ℕ
+said_body (Answered status body) = body
+said_body other = []
+
+-- the status that is said
+abbrev status_said : Said → ℕ
+status_said (Answered status body) = status
+status_said other = 0
+
+-- what is said is no success
+pub no-success : (said : SaidOf) (body : List ℕ) (test : Bool) → ((bytes : List ℕ) → said_of said bytes ≡ Answered 0 bytes → test ≡ true) → test ≡ false → ¬ IsSuccess (said_of said body)
+no-success Ok body test succeeds none = λ success. let yes = succeeds body refl in cc
+no-success (Status status) body test succeeds none = λ success.
+    let zero_is : status ≡ 0 = ap status_said success.1 in
+    let yes = succeeds body (ap (λ (n : ℕ). Answered n body) zero_is) in
+    cc
+no-success NoPower body test succeeds none = λ success. let same = success.1 in cc
+no-success Upset body test succeeds none = λ success. let same = success.1 in cc
+no-success Short body test succeeds none = λ success. let same = success.1 in cc
 
 -- so many commands of a line were sent, and each was a success; this is the text so far
 pub record Went (tool : Tool) (k : ℕ) (old new : WireView) (text : List ℕ) : Type 0 where
   pub added : List Entry
   pub bodies : List (List ℕ)
   pub grows : Grows added old new
-  pub succeeded : AllSucceed (Hears old.bus) old.on (first_of k (command_of (packet_limit old.bus) tool)) added bodies new.on
+  pub succeeded : AllSucceed (Hears old.bus) (host_view old) (first_of k (command_of (packet_limit old.bus) tool)) added bodies (host_view new)
   pub text_is : text ≡ replies_text tool bodies
 
 -- nothing was sent yet
 pub went-nothing : (tool : Tool) (view : WireView) → Went tool 0 view view []
 went-nothing tool view = record { added = []; bodies = []; grows = grows-nil view; succeeded = (refl, refl, refl); text_is = refl }
 
--- what is heard of a command on a wire
-pub heard-once : (asked : Asked) (want : ℕ) (ending : Ending) (old new : WireView) → want ≡ asked.want → (asks : AsksOnce (packet_of asked) want ending old new) → Hears old.bus old.on asked asks.added ending new.on
-heard-once asked want ending old new same asks =
+-- a command that was sent once
+pub hears-once : (asked : Asked) (ending : Ending) (said : Said) (old new : WireView) → tells_any asked.command ≡ true → said ≡ said_once ending → AsksOnce (packet_of asked) asked.want ending old new → HearsOn asked said old new
+hears-once asked ending said old new once same asks =
+    let sent : IsSentOnce old.bus old.on asked asks.added said = record { ending = ending; once = asks.asked; said_is = same } in
     record {
-      once = subst (λ (wanted : ℕ). AskedOnce old.on old.bus (packet_of asked) wanted asks.added ending) same asks.asked;
-      steps = asks.grows.steps;
-      on_is = asks.grows.on;
+      added = asks.added;
+      grows = asks.grows;
+      hears = record {
+        goes = subst (λ (test : Bool). GoesBy test old.bus (host_view old) asked asks.added said) (sym once) sent;
+        steps = asks.grows.steps;
+        after_is = view-after asks.added old new asks.grows;
+      };
     }
 
+-- a command that was tried
+pub hears-tried : (asked : Asked) (said : Said) (old new : WireView) → tells_any asked.command ≡ false → TriesOn 0 (request_of asked) asked.want said old new → HearsOn asked said old new
+hears-tried asked said old new tried tries =
+    record {
+      added = tries.added;
+      grows = tries.grows;
+      hears = record {
+        goes = subst (λ (test : Bool). GoesBy test old.bus (host_view old) asked tries.added said) (sym tried) tries.part;
+        steps = tries.grows.steps;
+        after_is = view-after tries.added old new tries.grows;
+      };
+    }
+
+-- a reply of a request that was sent once and answered with success, by two tests
+told-by : (on success fits : Bool) (want status : ℕ) (told body : List ℕ) → (status == 0) ≡ success → (length told == want) ≡ fits → ended on (if success && not fits then BadEnding else Told status told) ≡ Told 0 body → length body ≡ want
+told-by true true true want status told body zero_is sized same = sym (ap (λ (e : Ending). length (told_body e)) same) ∙ eq-of (length told) want sized
+told-by true true false want status told body zero_is sized same = absurd (cc)
+told-by true false fits want status told body zero_is sized same =
+    let none : status ≡ 0 = ap told_status same in
+    let yes : (status == 0) ≡ true = ap (λ (n : ℕ). n == 0) none in
+    absurd (cc)
+told-by false success fits want status told body zero_is sized same = absurd (cc)
+
+heard-sized : (on : Bool) (want : ℕ) (heard : Heard) (body : List ℕ) → ended on (heard_as want heard) ≡ Told 0 body → length body ≡ want
+heard-sized on want (Reply bytes) body same = let view = response_view bytes in told-by on (view.status == 0) (length view.body == want) want view.status view.body body refl refl same
+heard-sized true want HeardBad body same = absurd (cc)
+heard-sized false want HeardBad body same = absurd (cc)
+heard-sized true want HeardSilent body same = absurd (cc)
+heard-sized false want HeardSilent body same = absurd (cc)
+
+asked-sized : (on : Bool) (bus : BusKind) (packet : List ℕ) (want : ℕ) (entries : List Entry) (ending : Ending) (body : List ℕ) → AskedOnce on bus packet want entries ending → ending ≡ Told 0 body → length body ≡ want
+asked-sized true bus packet want entries ending body asked same = heard-sized (on_after entries true) want asked.heard body (sym asked.ending_is ∙ same)
+asked-sized false bus packet want entries ending body asked same = let none = asked.ending_is in absurd (cc)
+
+-- a success that was said of it
+once-success : (ending : Ending) (body : List ℕ) → said_once ending ≡ Answered 0 body → ending ≡ Told 0 body
+once-success (Told status told) body same =
+    let number : status ≡ 0 = ap status_said same in
+    let bytes : told ≡ body = ap said_body same in
+    rw (number, bytes) refl
+once-success BadEnding body same = absurd (cc)
+once-success SilentEnding body same = absurd (cc)
+once-success OffEnding body same = absurd (cc)
+
+goes-sized : (once : Bool) (bus : BusKind) (view : HostView) (asked : Asked) (entries : List Entry) (body : List ℕ) → GoesBy once bus view asked entries (Answered 0 body) → (length body ≡ asked.want) ⊎ (body ≡ [])
+goes-sized true bus view asked entries body goes = inl (asked-sized view.on bus (packet_of asked) asked.want entries goes.ending body goes.once (once-success goes.ending body (sym goes.said_is)))
+goes-sized false bus view asked entries body goes = tries-sized (record { bus = bus; floor = 0 }) (request_of asked) asked.want view entries (Answered 0 body) body goes refl
+
+-- a success has as many bytes as are wanted, or none
+pub hears-sized : (asked : Asked) (said : Said) (body : List ℕ) (old new : WireView) → said ≡ Answered 0 body → HearsOn asked said old new → (length body ≡ asked.want) ⊎ (body ≡ [])
+hears-sized asked said body old new same hears =
+    goes-sized (tells_any asked.command) old.bus (host_view old) asked hears.added body (subst (λ (s : Said). GoesBy (tells_any asked.command) old.bus (host_view old) asked hears.added s) same (hears.hears).goes)
+
 -- what is heard of a command of a line, behind others
-heard-behind : (asked command : Asked) (ending : Ending) (old middle new : WireView) → asked ≡ command → middle.bus ≡ old.bus → (asks : AsksOnce (packet_of asked) asked.want ending middle new) → Hears old.bus middle.on command asks.added ending new.on
-heard-behind asked command ending old middle new same bus asks =
-    subst (λ (kind : BusKind). Hears kind middle.on command asks.added ending new.on) bus
-    (subst (λ (sent : Asked). Hears middle.bus middle.on sent asks.added ending new.on) same (heard-once asked asked.want ending middle new refl asks))
+heard-behind : (asked command : Asked) (said : Said) (old middle new : WireView) → asked ≡ command → middle.bus ≡ old.bus → (hears : HearsOn asked said middle new) → Hears old.bus (host_view middle) command hears.added said (host_view new)
+heard-behind asked command said old middle new same bus hears =
+    subst (λ (kind : BusKind). Hears kind (host_view middle) command hears.added said (host_view new)) bus
+    (subst (λ (sent : Asked). Hears middle.bus (host_view middle) sent hears.added said (host_view new)) same hears.hears)
 
 -- the next command was a success, too
-pub went-on : (tool : Tool) (k : ℕ) (old middle new : WireView) (text body : List ℕ) (asked : Asked) → asked ≡ command_of (packet_limit old.bus) tool k → Went tool k old middle text → AsksOnce (packet_of asked) asked.want (Said 0 body) middle new → Went tool (k + 1) old new (text ++ reply_text tool body)
+pub went-on : (tool : Tool) (k : ℕ) (old middle new : WireView) (text body : List ℕ) (asked : Asked) → asked ≡ command_of (packet_limit old.bus) tool k → Went tool k old middle text → HearsOn asked (Answered 0 body) middle new → Went tool (k + 1) old new (text ++ reply_text tool body)
 went-on tool k old middle new text body asked same went asks =
     let each = command_of (packet_limit old.bus) tool in
-    let heard = heard-behind asked (each k) (Said 0 body) old middle new same went.grows.bus asks in
+    let heard = heard-behind asked (each k) (Answered 0 body) old middle new same went.grows.bus asks in
     let next : suc k ≡ k + 1 = omega arith in
     subst (λ (count : ℕ). Went tool count old new (text ++ reply_text tool body)) next (record {
       added = went.added ++ asks.added;
       bodies = went.bodies ++ body ∷ [];
       grows = grows-then went.added asks.added old middle new went.grows asks.grows;
-      succeeded = succeed-more (Hears old.bus) old.on (first_of k each) went.added went.bodies middle.on (each k) asks.added body new.on went.succeeded heard;
+      succeeded = succeed-more (Hears old.bus) (host_view old) (first_of k each) went.added went.bodies (host_view middle) (each k) asks.added body (host_view new) went.succeeded heard;
       text_is = ap (λ (front : List ℕ). front ++ reply_text tool body) went.text_is ∙ sym (replies-more tool went.bodies body);
     })
 
@@ -126,28 +219,28 @@ went-all tool old new text went =
     }
 
 -- a line one of whose commands was no success
-pub went-stopped : (tool : Tool) (k : ℕ) (old middle new : WireView) (text : List ℕ) (asked : Asked) (ending : Ending) → k < count_of (packet_limit old.bus) tool → asked ≡ command_of (packet_limit old.bus) tool k → ¬ IsSuccess ending → Went tool k old middle text → AsksOnce (packet_of asked) asked.want ending middle new →
-    CarriesTool tool (printed (refusal_text ending)) old new
-went-stopped tool k old middle new text asked ending there same refused went asks =
+pub went-stopped : (tool : Tool) (k : ℕ) (old middle new : WireView) (text : List ℕ) (asked : Asked) (said : Said) → k < count_of (packet_limit old.bus) tool → asked ≡ command_of (packet_limit old.bus) tool k → ¬ IsSuccess said → Went tool k old middle text → HearsOn asked said middle new →
+    CarriesTool tool (printed (refusal_text said)) old new
+went-stopped tool k old middle new text asked said there same refused went asks =
     let each = command_of (packet_limit old.bus) tool in
     let split = first_of-split each k (count_of (packet_limit old.bus) tool) there in
-    let stops : StopsAt (Hears old.bus) old.on (commands_of (packet_limit old.bus) tool) (went.added ++ asks.added) ending new.on = record {
+    let stops : StopsAt (Hears old.bus) (host_view old) (commands_of (packet_limit old.bus) tool) (went.added ++ asks.added) said (host_view new) = record {
       before = first_of k each;
       asked = each k;
       after = split.0;
       first = went.added;
       last = asks.added;
       bodies = went.bodies;
-      middle = middle.on;
+      middle = host_view middle;
       commands_are = split.1;
       entries_are = refl;
       succeeded = went.succeeded;
-      asks_last = heard-behind asked (each k) ending old middle new same went.grows.bus asks;
+      asks_last = heard-behind asked (each k) said old middle new same went.grows.bus asks;
       refused = refused;
     } in
     record {
       added = went.added ++ asks.added;
-      end = Stopped ending;
+      end = Stopped said;
       grows = grows-then went.added asks.added old middle new went.grows asks.grows;
       asks = stops;
       text_is = refl;
@@ -328,10 +421,6 @@ command-wants limit (Reboot cmd) k large within = omega (arith, large)
 command-wants limit (Test ec_result ret_len bytes) k large within = omega (arith, large, within.0)
 command-wants limit Resend k large within = omega (arith, large)
 
--- two numbers that a test finds equal
-pub eq-of : (a b : ℕ) → (a == b) ≡ true → a ≡ b
-eq-of a b same = grind (arith, eqb_tells)
-
 -- a cmd that a line may send is not that of a COLD
 not-four : (cmd : ℕ) (four : Bool) → (cmd == 4) ≡ four → IsTrue (is_reboot cmd) → four ≡ false
 not-four cmd false same within = refl
@@ -369,3 +458,55 @@ plain-at asked (small, other) short = plain-spelled asked.command asked.version 
 -- no command of a line is a COLD
 pub command-plain : (limit : ℕ) (tool : Tool) (k : ℕ) → 128 ≤ limit → limit ≤ 544 → IsInRange tool → IsPlain (packet_of (command_of limit tool k))
 command-plain limit tool k large small within = plain-at (command_of limit tool k) (command-no_cold limit tool k within) (omega (arith, small, command-short limit tool k large within))
+
+-- a command that is sent once is the first of its line
+pub once-first : (limit : ℕ) (tool : Tool) (k : ℕ) → k < count_of limit tool → tells_any (command_of limit tool k).command ≡ true → k ≡ 0
+once-first limit Hello k there once = omega (arith, there)
+once-first limit Version k there once = omega (arith, there)
+once-first limit ChipInfo k there once = omega (arith, there)
+once-first limit (CmdVersions number) k there once = omega (arith, there)
+once-first limit ProtoInfo k there once = omega (arith, there)
+once-first limit FlashInfo k there once = omega (arith, there)
+once-first limit (RegionInfo region) k there once = omega (arith, there)
+once-first limit (FlashRead at size) k there once = absurd (cc)
+once-first limit (FlashWrite at bytes) k there once = absurd (cc)
+once-first limit (FlashProtect mask flags) k there once = omega (arith, there)
+once-first limit Hash k there once = omega (arith, there)
+once-first limit HashAbort k there once = omega (arith, there)
+once-first limit (HashStart image nonce) k there once = omega (arith, there)
+once-first limit (HashRange at size) k there once = omega (arith, there)
+once-first limit Sysinfo k there once = omega (arith, there)
+once-first limit (Reboot cmd) k there once = omega (arith, there)
+once-first limit (Test ec_result ret_len bytes) k there once = omega (arith, there)
+once-first limit Resend k there once = omega (arith, there)
+
+-- a reply as add_reply wants it
+pub reply-fits : (tool : Tool) (limit k : ℕ) (asked : Asked) (body reply : List ℕ) → asked ≡ command_of limit tool k → reply ≡ body → (length body ≡ asked.want) ⊎ (body ≡ []) → IsReply tool reply
+reply-fits tool limit k asked body reply same is (inl sized) = inl (limit, k, ap (λ (bytes : List ℕ). length bytes) is ∙ sized ∙ ap (λ (command : Asked). command.want) same)
+reply-fits tool limit k asked body reply same is (inr none) = inr (is ∙ none)
+
+-- and how many bytes it has at most
+pub reply-few : (limit : ℕ) (tool : Tool) (k : ℕ) (asked : Asked) (body : List ℕ) → 128 ≤ limit → IsInRange tool → asked ≡ command_of limit tool k → (length body ≡ asked.want) ⊎ (body ≡ []) → length body ≤ limit - 8
+reply-few limit tool k asked body large within same (inl sized) = omega (arith, sized, ap (λ (command : Asked). command.want) same, command-wants limit tool k large within)
+reply-few limit tool k asked body large within same (inr none) = omega (arith, ap (λ (bytes : List ℕ). length bytes) none)
+
+-- a command's number has 16 bits
+pub command-number : (limit : ℕ) (tool : Tool) (k : ℕ) → (command_of limit tool k).command < 65536
+command-number limit Hello k = omega arith
+command-number limit Version k = omega arith
+command-number limit ChipInfo k = omega arith
+command-number limit (CmdVersions number) k = omega arith
+command-number limit ProtoInfo k = omega arith
+command-number limit FlashInfo k = omega arith
+command-number limit (RegionInfo region) k = omega arith
+command-number limit (FlashRead at size) k = omega arith
+command-number limit (FlashWrite at bytes) k = omega arith
+command-number limit (FlashProtect mask flags) k = omega arith
+command-number limit Hash k = omega arith
+command-number limit HashAbort k = omega arith
+command-number limit (HashStart image nonce) k = omega arith
+command-number limit (HashRange at size) k = omega arith
+command-number limit Sysinfo k = omega arith
+command-number limit (Reboot cmd) k = omega arith
+command-number limit (Test ec_result ret_len bytes) k = omega arith
+command-number limit Resend k = omega arith

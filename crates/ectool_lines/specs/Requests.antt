@@ -1,6 +1,6 @@
 -- The commands that a line sends.
 use Rattle.std.specs.Prelude.{ℕ, zero, suc, ◌+◌, ◌-◌, ◌*◌, ◌/◌, ◌%◌, ◌^◌, ◌==◌, min, if◌then◌else◌, List, [], ◌∷◌, ◌++◌, length, take, drop}
-use Rattle.ec_model.specs.Packet.{request_packet}
+use Rattle.ec_model.specs.Packet.{RequestView, request_packet}
 use Rattle.flash_dev.specs.declared.geometry.Region.{Region}
 use Rattle.flash_dev.specs.declared.geometry.Region.TheVariants.{Ro, Active, WpRo, Update}
 use Rattle.ec_types.specs.declared.image.ImageCopy.{ImageCopy}
@@ -16,6 +16,10 @@ pub record Asked : Type 0 where
   pub version : ℕ
   pub body : List ℕ
   pub want : ℕ
+
+-- the request of a command
+abbrev pub request_of : Asked → RequestView
+request_of asked = record { command = asked.command; version = asked.version; body = asked.body }
 
 -- the packet that sends a command
 abbrev pub packet_of : Asked → List ℕ

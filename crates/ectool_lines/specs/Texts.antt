@@ -5,7 +5,7 @@ use Rattle.ec_types.specs.LittleEndian.{u16_at, u32_at}
 use Rattle.std.specs.Fmt.{decimal}
 use Rattle.hex.specs.Hex.{encode_lower}
 use Rattle.ec_types.specs.Tables.{status_name}
-use Rattle.host_transport.specs.Once.{Ending, Said, Bad, Silent, NoPower}
+use Rattle.ec_model.specs.Tries.{Said, Answered, SaidNoPower, SaidUpset, SaidShort}
 use Rattle.ectool_lines.specs.declared.tool.Tool.{Tool}
 use Rattle.ectool_lines.specs.declared.tool.Tool.TheVariants.{Hello, Version, ChipInfo, CmdVersions, ProtoInfo, FlashInfo, RegionInfo, FlashRead, FlashWrite, FlashProtect, Hash, HashAbort, HashStart, HashRange, Sysinfo, Reboot, Test, Resend}
 
@@ -14,11 +14,11 @@ abbrev pub status_text : ℕ → List ℕ
 status_text status = codes "EC result " ++ decimal status ++ codes " (" ++ status_name status ++ codes ")"
 
 -- what is printed where a command was no success
-abbrev pub refusal_text : Ending → List ℕ
-refusal_text (Said status body) = status_text status
-refusal_text Bad = codes "EC did not answer"
-refusal_text Silent = codes "EC did not answer"
-refusal_text NoPower = codes "EC has no power"
+abbrev pub refusal_text : Said → List ℕ
+refusal_text (Answered status body) = status_text status
+refusal_text SaidNoPower = codes "EC has no power"
+refusal_text SaidUpset = codes "EC did not answer"
+refusal_text SaidShort = codes "EC did not answer"
 
 -- an image by its number: 1 is RO, and any other one RW
 abbrev pub image_text : ℕ → List ℕ
@@ -108,9 +108,9 @@ closing_text other = []
 -- how the commands of a line ended: all in success, with these bodies of their replies; or one of them not
 pub data LineEnd : Type 0 where
   Succeeded : List (List ℕ) → LineEnd
-  Stopped : Ending → LineEnd
+  Stopped : Said → LineEnd
 
 -- the text of a line
 abbrev pub line_text : Tool → LineEnd → List ℕ
 line_text tool (Succeeded bodies) = replies_text tool bodies ++ closing_text tool
-line_text tool (Stopped ending) = refusal_text ending
+line_text tool (Stopped said) = refusal_text said

@@ -2,8 +2,7 @@
 ghost use Rattle.std.specs.Prelude.{◌≡◌, ◌≤◌, ◌+◌, ◌*◌, ◌++◌, ℕ, List, length, codes};
 ghost use Rattle.std.specs.Fmt.{decimal};
 ghost use Rattle.ec_types.specs.LittleEndian.{u32_at};
-ghost use Rattle.ectool_lines.specs.Requests.{command_of};
-ghost use Rattle.ectool_lines.specs.Sending.{most_text};
+ghost use Rattle.ectool_lines.specs.Sending.{most_text, columns_of, HasColumns, IsReply};
 ghost use Rattle.ectool_lines.specs.Texts.{
   reply_text,
   hex_text,
@@ -26,9 +25,48 @@ use ec_params::{
     SysinfoSay, VbootHashSay, VersionSay,
 };
 
-/// Appends what the reply to a command of the line gives to its text.
+// The most bytes of columns in a reply that a text tells.
+const MOST_COLUMNS: usize = 100;
+
+impl<'a> Tool<'a> {
+    // How many bytes of columns a reply has that the text tells; 0 where it tells none, or just the bytes.
+    fn columns(&self) -> usize
+        ensures columns { result ≡ columns_of self.now }
+        ensures few { result ≤ 100 }
+    {
+        match self {
+            Tool::Version => 100,
+            Tool::ChipInfo => 96,
+            Tool::CmdVersions { .. } => 4,
+            Tool::ProtoInfo | Tool::FlashProtect { .. } | Tool::Sysinfo => 12,
+            Tool::FlashInfo => 24,
+            Tool::RegionInfo { .. } => 8,
+            Tool::Hash | Tool::HashStart { .. } | Tool::HashRange { .. } => 76,
+            _ => 0,
+        }
+    }
+}
+
+/// Appends what the reply to a command of the line gives to its text. A command whose saved status was asked for has an
+/// empty reply, whose columns are told as zeros.
 pub(crate) fn add_reply(out: &mut LineText, tool: &Tool<'_>, reply: &[u8])
-    requires sized { (limit k : ℕ) × (length reply.now ≡ (command_of limit tool.now k).want) }
+    requires sized { IsReply tool.now reply.now }
+    requires few { length reply.now ≤ 544 }
+    requires fits { length out.old + most_text tool.now (length reply.now) ≤ 12000 }
+    ensures text { out.new ≡ out.old ++ reply_text tool.now reply.now }
+    ensures long { length out.new ≤ length out.old + most_text tool.now (length reply.now) }
+{
+    let columns = tool.columns();
+    if reply.len() < columns {
+        add_columns(out, tool, &[0; MOST_COLUMNS][..columns]);
+    } else {
+        add_columns(out, tool, reply);
+    }
+}
+
+// Appends what a reply with all its columns gives.
+fn add_columns(out: &mut LineText, tool: &Tool<'_>, reply: &[u8])
+    requires sized { HasColumns tool.now reply.now }
     requires few { length reply.now ≤ 544 }
     requires fits { length out.old + most_text tool.now (length reply.now) ≤ 12000 }
     ensures text { out.new ≡ out.old ++ reply_text tool.now reply.now }

@@ -1,14 +1,17 @@
 // A line, carried out: its commands are sent one after the other.
-ghost use Rattle.std.specs.Prelude.{◌≡◌, ◌≤◌, ◌+◌, length, drop};
+ghost use Rattle.std.specs.Prelude.{◌≡◌, ◌≤◌, ◌+◌, ◌↔◌, List, ℕ, length, drop, true, IsTrue};
 ghost use Rattle.flash_dev.specs.Counts.{Rose};
 ghost use Rattle.ec_types.specs.Tables.{packet_limit};
+ghost use Rattle.ec_model.specs.Tries.{Answered};
+ghost use Rattle.command_laws.specs.Carried.{tells_any};
 ghost use Rattle.ectool_lines.specs.Tools.{IsInRange};
 ghost use Rattle.exchange_laws.specs.Served.{IsPlain};
-ghost use Rattle.host_transport.specs.Once.{AsksOnce};
 ghost use Rattle.host_transport.specs.Ends.{ending_of};
-ghost use Rattle.ectool_lines.specs.Requests.{packet_of};
+ghost use Rattle.host_transport.specs.Once.{AsksOnce};
+ghost use Rattle.host_transport.specs.Trying.{said_of, TriesOn};
+ghost use Rattle.ectool_lines.specs.Requests.{packet_of, request_of};
 ghost use Rattle.ectool_lines.specs.Sending.{asked_of};
-ghost use Rattle.ectool_lines.specs.Asking.{CarriesTool};
+ghost use Rattle.ectool_lines.specs.Asking.{HearsOn, said_once, CarriesTool};
 ghost use Rattle.ectool_lines.specs.Running.{RunsTool};
 
 use crate::Tool;
@@ -17,9 +20,10 @@ use crate::replies::add_reply;
 use crate::text::{close, refuse};
 use bench_io::{LineText, PrintErr, Sink, print};
 use ec_packet::Packet;
-use ec_types::limit_of;
+use ec_params::command::{RESEND_RESPONSE, TEST_PROTOCOL};
+use ec_types::{limit_of, status};
 use ec_wire::Wire;
-use host_transport::{Once, once};
+use host_transport::{Once, Said, once, reply_body};
 
 /// The room that a line's commands have on a wire.
 const ROOM: usize = 200_000;
@@ -46,8 +50,8 @@ impl Buffers {
     }
 }
 
-/// Carries out a line and prints its text: its commands are sent once each, up to the first that is not answered with
-/// success.
+/// Carries out a line and prints its text: its commands go one after the other, up to the first that is not answered
+/// with success. Each is tried up to three times, but `test` and `resend`, which are sent once.
 pub fn run<W: Wire, K: Sink>(
     w: &mut W,
     tool: &Tool<'_>,
@@ -74,25 +78,64 @@ fn carry_out<W: Wire>(w: &mut W, tool: &Tool<'_>, buffers: &mut Buffers)
     buffers.text.clear();
     for k in 0..tool.count(limit) {
         let command = tool.command(limit, k, &mut buffers.body);
-        let ended = send(w, command, buffers);
-        if !ended.is_success() {
-            refuse(&mut buffers.text, ended);
+        let said = send(w, command, buffers);
+        if !is_success(said) {
+            refuse(&mut buffers.text, said);
             return;
         }
-        add_reply(&mut buffers.text, tool, behind_header(&buffers.reply));
+        add_reply(&mut buffers.text, tool, reply_body(&buffers.reply));
     }
     close(&mut buffers.text, tool);
 }
 
-// Sends a command once, whose body stands in its buffer.
-fn send<W: Wire>(w: &mut W, command: Command, buffers: &mut Buffers) -> Once
+// Whether a command was answered with success.
+fn is_success(said: Said) -> bool
+    ensures { (body : List ℕ) → IsTrue result ↔ (said_of said body ≡ Answered 0 body) }
+{
+    matches!(said, Said::Ok | Said::Status(status::SUCCESS))
+}
+
+// Whether a command is sent once, since it is answered with whatever status was asked for or is saved.
+fn is_sent_once(number: u16) -> bool
+    ensures { result ≡ tells_any number }
+{
+    number == TEST_PROTOCOL || number == RESEND_RESPONSE
+}
+
+// What is said of a request that was sent once.
+fn said_once(ended: Once) -> Said
+    ensures { (body : List ℕ) → said_of result body ≡ said_once (ending_of ended body) }
+{
+    match ended {
+        Once::Status(status) => Said::Status(status),
+        Once::Bad | Once::Silent => Said::Upset,
+        Once::NoPower => Said::NoPower,
+    }
+}
+
+// Sends a command, whose body stands in its buffer.
+fn send<W: Wire>(w: &mut W, command: Command, buffers: &mut Buffers) -> Said
+    requires room { tells_any command.number ≡ true → 1500 ≤ (W.view w.old).spare }
+    requires short { 8 + length buffers.old.body ≤ packet_limit (W.view w.old).bus }
+    requires plain { IsPlain (packet_of (asked_of command buffers.old.body)) }
+    ensures hears { HearsOn (asked_of command buffers.old.body) (said_of result (drop 8 buffers.new.reply)) (W.view w.old)
+        (W.view w.new) }
+    ensures text { buffers.new.text ≡ buffers.old.text }
+{
+    if is_sent_once(command.number) {
+        said_once(send_once(w, command, buffers))
+    } else {
+        send_tried(w, command, buffers)
+    }
+}
+
+// Sends it once.
+fn send_once<W: Wire>(w: &mut W, command: Command, buffers: &mut Buffers) -> Once
     requires room { 1500 ≤ (W.view w.old).spare }
     requires short { 8 + length buffers.old.body ≤ packet_limit (W.view w.old).bus }
     requires plain { IsPlain (packet_of (asked_of command buffers.old.body)) }
     ensures asks { AsksOnce (packet_of (asked_of command buffers.old.body)) command.want (ending_of result
         (drop 8 buffers.new.reply)) (W.view w.old) (W.view w.new) }
-    ensures want { result ≡ Once.Status 0 → length buffers.new.reply ≡ 8 + command.want }
-    ensures room { (W.view w.old).spare ≤ (W.view w.new).spare + length buffers.old.body + 563 }
     ensures text { buffers.new.text ≡ buffers.old.text }
 {
     once(
@@ -106,10 +149,22 @@ fn send<W: Wire>(w: &mut W, command: Command, buffers: &mut Buffers) -> Once
     )
 }
 
-// The body of a packet.
-fn behind_header(packet: &Packet) -> &[u8]
-    requires { 8 ≤ length packet.now }
-    ensures { result.now ≡ drop 8 packet.now }
+// Sends it up to three times, with no room left to other commands.
+fn send_tried<W: Wire>(w: &mut W, command: Command, buffers: &mut Buffers) -> Said
+    requires short { 8 + length buffers.old.body ≤ packet_limit (W.view w.old).bus }
+    requires plain { IsPlain (packet_of (asked_of command buffers.old.body)) }
+    ensures tries { TriesOn 0 (request_of (asked_of command buffers.old.body)) command.want (said_of result
+        (drop 8 buffers.new.reply)) (W.view w.old) (W.view w.new) }
+    ensures text { buffers.new.text ≡ buffers.old.text }
 {
-    &packet.as_slice()[8..]
+    host_transport::command(
+        w,
+        command.number,
+        command.version,
+        buffers.body.as_slice(),
+        command.want,
+        0,
+        &mut buffers.packet,
+        &mut buffers.reply,
+    )
 }

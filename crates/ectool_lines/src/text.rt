@@ -1,13 +1,13 @@
 // How the text of a line ends.
 ghost use Rattle.std.specs.Prelude.{◌≡◌, ◌≤◌, ◌+◌, ◌++◌, ℕ, List, length, codes};
 ghost use Rattle.std.specs.Fmt.{decimal};
-ghost use Rattle.host_transport.specs.Ends.{ending_of};
+ghost use Rattle.host_transport.specs.Trying.{said_of};
 ghost use Rattle.ectool_lines.specs.Texts.{printed, refusal_text, status_text, closing_text};
 
 use crate::Tool;
 use bench_io::LineText;
-use ec_types::Status;
-use host_transport::Once;
+use ec_types::{Status, status};
+use host_transport::Said;
 use itoa::Buffer;
 
 // A status by its number and its name.
@@ -25,14 +25,15 @@ fn append_status(out: &mut LineText, status: u16)
 }
 
 /// Tells, in place of what was there, that a command was no success.
-pub(crate) fn refuse(out: &mut LineText, ended: Once)
-    ensures { (body : List ℕ) → out.new ≡ printed (refusal_text (ending_of ended body)) }
+pub(crate) fn refuse(out: &mut LineText, said: Said)
+    ensures { (body : List ℕ) → out.new ≡ printed (refusal_text (said_of said body)) }
 {
     out.clear();
-    match ended {
-        Once::Status(status) => append_status(out, status),
-        Once::Bad | Once::Silent => out.append(b"EC did not answer"),
-        Once::NoPower => out.append(b"EC has no power"),
+    match said {
+        Said::Ok => append_status(out, status::SUCCESS),
+        Said::Status(status) => append_status(out, status),
+        Said::NoPower => out.append(b"EC has no power"),
+        Said::Upset | Said::Short => out.append(b"EC did not answer"),
     }
     out.append(b"\n");
 }

@@ -6,7 +6,7 @@ use Rattle.script_lines.specs.declared.line.Line.{Line}
 use Rattle.script_lines.specs.declared.line.Line.TheVariants as line
 use Rattle.script_lines.specs.Lines.{line_of}
 use Rattle.ecbench.proofs.Adding.{event-serves, calls-serves, arm-serves, cut-serves, trace-serves}
-use Rattle.ecbench.proofs.EventLemmas.{deed-read}
+use Rattle.ecbench.proofs.ReadLemmas.{deed-read}
 use Rattle.ecbench.proofs.serving.serve_line.Goals as goal
 
 pub returns-in-Ok-Pin-clause-serves : goal.returns-in-Ok-Pin-clause-serves

@@ -1,7 +1,7 @@
 use Rattle.std.proofs.Common.{rules, ◌≡◌, Ok}
 use Rattle.ecbench.specs.Lines.{Asks, deed_of}
 use Rattle.ecbench.proofs.Adding.{tool-done, tool-stopped, as-exit}
-use Rattle.ecbench.proofs.EventLemmas.{tool-checked}
+use Rattle.ecbench.proofs.ReadLemmas.{tool-checked}
 use Rattle.ecbench.proofs.serving.serve_tool.Goals as goal
 
 pub parse_checked-requires : goal.parse_checked-requires

@@ -1,4 +1,4 @@
-use Rattle.std.proofs.Common.{◌≤◌, ◌+◌, ◌-◌, ◌*◌, length}
+use Rattle.std.proofs.Common.{◌≡◌, ◌≤◌, ◌-◌, ◌*◌, length}
 use Rattle.ec_types.specs.Tables.{packet_limit}
 use Rattle.ectool_lines.specs.Sending.{most_text}
 use Rattle.ectool_lines.proofs.SendLemmas.{Went}
@@ -7,4 +7,4 @@ use Rattle.ectool_lines.proofs.sending.carry_out.Given as goal
 abbrev pub invariant-loop-k : goal.invariant-loop-k
 invariant-loop-k g l =
     Went l.fn.tool l.k (g.W.Wire.view l.fn.w) (g.W.Wire.view l.w) l.buffers.text × (length l.buffers.text ≤ l.k * most_text l.fn.tool (packet_limit (g.W.Wire.view l.fn.w).bus - 8))
-    × (200000 ≤ (g.W.Wire.view l.w).spare + 1100 * l.k)
+    × (l.k ≡ 0 → 200000 ≤ (g.W.Wire.view l.w).spare)
