@@ -33,7 +33,7 @@ pub record CanSend (setting : Setting) (view : HostView) : Type 0 where
   pub room : setting.floor + least_room ≤ view.spare
 
 -- nothing keeps the host from sending
-is-sent : (setting : Setting) (view : HostView) → CanSend setting view → unsent view setting.floor ≡ IsSent
+pub is-sent : (setting : Setting) (view : HostView) → CanSend setting view → unsent view setting.floor ≡ IsSent
 is-sent setting view can = rw (can.on, enough view.spare (setting.floor + least_room) can.room) refl
 
 -- a response's status

@@ -15,3 +15,10 @@ pub mod MoreRoom
 pub mod Opening
 pub mod RunPower
 pub mod Upsets
+pub mod Looking
+pub mod Colds
+pub mod Restarting
+pub mod UpsetColds
+pub mod RestartParts
+pub mod FewCalls
+pub mod PowerLost

@@ -21,7 +21,7 @@ by-room bus request want entries end false true less long asks = absurd (let oth
 by-room bus request want entries end false false less long asks = asks
 
 -- what is too small a room in more room is one in less
-less-room : (few many least : ℕ) → few ≤ many → nat_lt many least ≡ true → nat_lt few least ≡ true
+pub less-room : (few many least : ℕ) → few ≤ many → nat_lt many least ≡ true → nat_lt few least ≡ true
 less-room few many least more short = grind (arith, leb_tells)
 
 -- an ask, in more room
@@ -47,7 +47,7 @@ turn-more setting on few many entries turn more long takes =
     }
 
 -- a turn that is stopped for want of room stops its poll so
-turn-long : (turn : Turn) (more : Type 0) (rest : List Entry) (end : PollEnd) → ¬ (end ≡ Stopped Short) → TurnLeads turn more rest end → ¬ (turn ≡ Ends (Stopped Short))
+pub turn-long : (turn : Turn) (more : Type 0) (rest : List Entry) (end : PollEnd) → ¬ (end ≡ Stopped Short) → TurnLeads turn more rest end → ¬ (turn ≡ Ends (Stopped Short))
 turn-long Pending more rest end long leads = λ short. cc
 turn-long (Ends reached) more rest end long leads = λ short. long (leads.1 ∙ ap reached_of short)
   where

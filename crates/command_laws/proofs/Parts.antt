@@ -66,19 +66,19 @@ length-reads access [] = refl
 length-reads access (byte ∷ bytes) = omega (arith, length-reads access bytes)
 
 -- writes to ports
-length-window : (port : ℕ) (bytes gots : List ℕ) → length gots ≡ length bytes → length (port_writes port bytes gots) ≡ length bytes
+pub length-window : (port : ℕ) (bytes gots : List ℕ) → length gots ≡ length bytes → length (port_writes port bytes gots) ≡ length bytes
 length-window port [] gots each = refl
 length-window port (byte ∷ bytes) [] each = absurd (omega (arith, each))
 length-window port (byte ∷ bytes) (got ∷ gots) each = omega (arith, length-window (port + 1) bytes gots (omega (arith, each)))
 
 -- writes on I2C
-length-i2c : (bytes gots : List ℕ) → length gots ≡ length bytes → length (i2c_writes bytes gots) ≡ length bytes
+pub length-i2c : (bytes gots : List ℕ) → length gots ≡ length bytes → length (i2c_writes bytes gots) ≡ length bytes
 length-i2c [] gots each = refl
 length-i2c (byte ∷ bytes) [] each = absurd (omega (arith, each))
 length-i2c (byte ∷ bytes) (got ∷ gots) each = omega (arith, length-i2c bytes gots (omega (arith, each)))
 
 -- bytes sent on SPI
-length-spi : (bytes gots : List ℕ) → length gots ≡ length bytes → length (spi_writes bytes gots) ≡ length bytes
+pub length-spi : (bytes gots : List ℕ) → length gots ≡ length bytes → length (spi_writes bytes gots) ≡ length bytes
 length-spi [] gots each = refl
 length-spi (byte ∷ bytes) [] each = absurd (omega (arith, each))
 length-spi (byte ∷ bytes) (got ∷ gots) each = omega (arith, length-spi bytes gots (omega (arith, each)))

@@ -35,7 +35,7 @@ comms-fits Spi = record { plain = comms-plain; short = omega arith }
 abbrev pub shown_turn : Bool → Turn
 shown_turn pending = if pending then Pending else Ends Idle
 
-turn-shown : (pending : Bool) → turn_of (Status 0 (comms_say (bit_if 0x01 pending))) ≡ shown_turn pending
+pub turn-shown : (pending : Bool) → turn_of (Status 0 (comms_say (bit_if 0x01 pending))) ≡ shown_turn pending
 turn-shown true = refl
 turn-shown false = refl
 
@@ -80,12 +80,12 @@ turns-calm setting view core table entries turn last at has quiet run takes =
     }
 
 -- so many waits are left behind a tick; none, and no erase is pending
-abbrev LeavesWaits : ℕ → Option EraseJob → Type 0
+abbrev pub LeavesWaits : ℕ → Option EraseJob → Type 0
 LeavesWaits zero erase = erase ≡ None
 LeavesWaits (suc more) erase = (job : EraseJob) × (erase ≡ Some job) × (job.left ≡ suc more)
 
 -- what a tick leaves of the waits of a poll
-tick-waits : (erase : Option EraseJob) (core : Core) (more : ℕ) → core.live.erase ≡ erase → poll_waits erase ≡ suc more → LeavesWaits more (ticked core).live.erase
+pub tick-waits : (erase : Option EraseJob) (core : Core) (more : ℕ) → core.live.erase ≡ erase → poll_waits erase ≡ suc more → LeavesWaits more (ticked core).live.erase
 tick-waits None core zero same waits =
     subst (λ (erase : Option EraseJob). (ticked_by erase core).live.erase ≡ None) (sym same) ((hash-idle core.live.hash core same).0)
 tick-waits None core (suc more) same waits = absurd (omega (arith, waits))

@@ -33,7 +33,7 @@ use Rattle.command_laws.specs.Commands.{Fits, IsProper}
 use Rattle.command_laws.specs.Standing.{HasRoom, IsAt, IsOpen, IsQuiet}
 
 -- RESEND_RESPONSE fits each bus
-resend-fits : (bus : BusKind) → Fits bus resend_request
+pub resend-fits : (bus : BusKind) → Fits bus resend_request
 resend-fits Lpc = record { plain = resend-plain; short = omega arith }
 resend-fits I2c = record { plain = resend-plain; short = omega arith }
 resend-fits Spi = record { plain = resend-plain; short = omega arith }

@@ -140,18 +140,22 @@ no-power status NoReply more rest end off leads = absurd (cc)
 no-power status (Status other body) more rest end off leads = absurd (cc)
 
 -- a test that is not false
-not-off : (b : Bool) → ¬ (b ≡ false) → b ≡ true
+pub not-off : (b : Bool) → ¬ (b ≡ false) → b ≡ true
 not-off true on = refl
 not-off false on = absurd (on refl)
 
--- a try that said nothing began with the power on
-pub lost-on : (setting : Setting) (request : RequestView) (want : ℕ) (view : HostView) (entries : List Entry) → TriesOnce setting request want view entries (Again false) → view.on ≡ true
-lost-on setting request want view entries once = not-off view.on (λ off.
+-- with the power off a try says so
+pub off-try : (setting : Setting) (request : RequestView) (want : ℕ) (view : HostView) (entries : List Entry) (end : TryEnd) → view.on ≡ false → TriesOnce setting request want view entries end → end ≡ Final SaidNoPower
+off-try setting request want view entries end off once =
     let asked = once.asked in
     let told : once.told ≡ NoPower = no-power 16 asked.told _ asked.rest once.told (off-asks setting request want view asked.first asked.told off asked.asked) asked.again in
     let last : once.last ≡ NoPower = no-power 8 once.told _ once.rest once.last told once.resent in
-    let same : Again false ≡ Final SaidNoPower = once.end_is ∙ ap (λ (end : Got). try_end (has_status 8 once.told) end) last in
-    cc)
+    once.end_is ∙ ap (λ (end : Got). try_end (has_status 8 once.told) end) last
+
+-- a try that said nothing began with the power on
+pub lost-on : (setting : Setting) (request : RequestView) (want : ℕ) (view : HostView) (entries : List Entry) → TriesOnce setting request want view entries (Again false) → view.on ≡ true
+lost-on setting request want view entries once =
+    not-off view.on (λ off. let same : Again false ≡ Final SaidNoPower = off-try setting request want view entries (Again false) off once in cc)
 
 -- much more than the room that is left to later commands
 abbrev pub large_room : Setting → ℕ

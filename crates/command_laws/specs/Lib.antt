@@ -3,3 +3,4 @@ pub mod Carried
 pub mod Room
 pub mod Standing
 pub mod Commands
+pub mod Restarting

@@ -10,5 +10,7 @@
 #![tactic(auto)]
 
 mod commands;
+mod restarts;
 
 pub use commands::{commands_are_carried, polls_end, upset_commands_are_upset};
+pub use restarts::{colds_restart, upset_colds_are_upset};
