@@ -32,13 +32,13 @@ heard-got want HeardSilent = refl
 abbrev seen : Bool → ℕ → HostView
 seen on spare = record { on = on; spare = spare }
 
-off-unsent : (on : Bool) (spare floor : ℕ) → on ≡ false → unsent (seen on spare) floor ≡ WithoutPower
+pub off-unsent : (on : Bool) (spare floor : ℕ) → on ≡ false → unsent (seen on spare) floor ≡ WithoutPower
 off-unsent on spare floor off = rw (off) refl
 
-short-unsent : (on : Bool) (spare floor : ℕ) → on ≡ true → spare < floor + 1500 → unsent (seen on spare) floor ≡ WithoutRoom
+pub short-unsent : (on : Bool) (spare floor : ℕ) → on ≡ true → spare < floor + 1500 → unsent (seen on spare) floor ≡ WithoutRoom
 short-unsent on spare floor is small = rw (is, lt-ltb spare (floor + 1500) small) refl
 
-is-sent : (on : Bool) (spare floor : ℕ) → on ≡ true → floor + 1500 ≤ spare → unsent (seen on spare) floor ≡ IsSent
+pub is-sent : (on : Bool) (spare floor : ℕ) → on ≡ true → floor + 1500 ≤ spare → unsent (seen on spare) floor ≡ IsSent
 is-sent on spare floor is large = rw (is, le-ltb spare (floor + 1500) large) refl
 
 -- nothing is sent from a controller that is off

@@ -5,3 +5,4 @@ pub mod WireParts
 pub mod PollTurns
 pub mod TryLaws
 pub mod CommandLaws
+pub mod RestartLaws

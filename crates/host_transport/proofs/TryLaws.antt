@@ -1,13 +1,16 @@
 -- A try on a wire, part by part.
-use Rattle.std.proofs.Common.{◌≡◌, refl, sym, ap, ◌∙◌, ℕ, ◌≤◌, Bool, true, false, List, [], append-nil, MatchBool}
+use Rattle.std.proofs.Common.{◌≡◌, refl, sym, ap, ◌∙◌, ℕ, ◌≤◌, Bool, true, false, if◌then◌else◌, List, [], append-nil, MatchBool}
 use Rattle.ec_model.specs.Packet.{RequestView}
 use Rattle.ec_model.specs.Asks.{Got, Asks, has_status}
 use Rattle.ec_model.specs.Polls.{PollEnd, Idle, Polls, PollLeads, AsksWhenIdle, poll_turns}
-use Rattle.ec_model.specs.Tries.{TryEnd, AsksPastErase, TriesOnce, try_end, resend_request}
+use Rattle.ec_model.specs.Tries.{TryEnd, Final, Again, Answered, SaidNoPower, SaidShort, AsksPastErase, TriesOnce, try_end, resend_request}
 use Rattle.ec_wire.specs.Calls.{WireView}
 use Rattle.host_transport.specs.Asking.{AsksOn, Leaves, got_of}
 use Rattle.host_transport.specs.Polling.{PollsOn}
-use Rattle.host_transport.specs.Trying.{AsksWhenIdleOn, AsksPastEraseOn, TriesOnceOn}
+use Rattle.host_transport.specs.Trying.{try_of, AsksWhenIdleOn, AsksPastEraseOn, TriesOnceOn, TryLeaves}
+use Rattle.host_transport.specs.declared.ending.Said.TheVariants.{Ok as OkOf, Status as StatusOf, NoPower as NoPowerOf, Upset as UpsetOf, Short as ShortOf}
+use Rattle.host_transport.specs.declared.trying.TryEnd.{TryEnd as TryEndOf}
+use Rattle.host_transport.specs.declared.trying.TryEnd.TheVariants.{Final as FinalOf, Again as AgainOf}
 use Rattle.host_transport.specs.declared.asking.Got.{Got as EndOf}
 use Rattle.host_transport.specs.declared.asking.Got.TheVariants.{NoPower as EndNoPower, Short as EndShort, NoReply as EndNoReply, Status as EndStatus}
 use Rattle.host_transport.proofs.WireParts.{part-as, parts-as}
@@ -83,3 +86,30 @@ room-with floor status EndNoPower body view is room = absurd (cc)
 room-with floor status EndShort body view is room = absurd (cc)
 room-with floor status EndNoReply body view is room = absurd (cc)
 room-with floor status (EndStatus other) body view is room = room
+
+-- a try that ends its command with a reply or tries again says neither that power is wanted nor that room is
+not-stopped : (unclean three : Bool) (status : ℕ) (body : List ℕ) → ¬ (Final SaidNoPower ≡ (if unclean then Again three else Final (Answered status body)))
+not-stopped true three status body = λ same. cc
+not-stopped false three status body = λ same. cc
+
+not-short : (unclean three : Bool) (status : ℕ) (body : List ℕ) → ¬ (Final SaidShort ≡ (if unclean then Again three else Final (Answered status body)))
+not-short true three status body = λ same. cc
+not-short false three status body = λ same. cc
+
+-- what is known of the wire behind a try, by what is known behind its last ask
+pub meant-leaves : (floor : ℕ) (resent : Bool) (end : EndOf) (meant : TryEndOf) (view : WireView) → ((body : List ℕ) → try_of meant body ≡ try_end resent (got_of end body)) → ¬ (meant ≡ FinalOf (StatusOf 0)) → Leaves floor end view → TryLeaves floor meant view
+meant-leaves floor resent end (AgainOf invalid) view is success leaves = tt
+meant-leaves floor resent end (FinalOf UpsetOf) view is success leaves = tt
+meant-leaves floor resent end (FinalOf (StatusOf status)) view is success leaves = λ none. success (ap (λ (s : ℕ). FinalOf (StatusOf s)) none)
+meant-leaves floor resent EndNoPower (FinalOf OkOf) view is success leaves = let same = is [] in absurd (cc)
+meant-leaves floor resent EndShort (FinalOf OkOf) view is success leaves = let same = is [] in absurd (cc)
+meant-leaves floor resent EndNoReply (FinalOf OkOf) view is success leaves = let same = is [] in absurd (cc)
+meant-leaves floor resent (EndStatus status) (FinalOf OkOf) view is success leaves = leaves
+meant-leaves floor resent EndNoPower (FinalOf NoPowerOf) view is success leaves = leaves
+meant-leaves floor resent EndShort (FinalOf NoPowerOf) view is success leaves = let same = is [] in absurd (cc)
+meant-leaves floor resent EndNoReply (FinalOf NoPowerOf) view is success leaves = let same = is [] in absurd (cc)
+meant-leaves floor resent (EndStatus status) (FinalOf NoPowerOf) view is success leaves = absurd (not-stopped _ _ _ _ (is []))
+meant-leaves floor resent EndNoPower (FinalOf ShortOf) view is success leaves = let same = is [] in absurd (cc)
+meant-leaves floor resent EndShort (FinalOf ShortOf) view is success leaves = leaves
+meant-leaves floor resent EndNoReply (FinalOf ShortOf) view is success leaves = let same = is [] in absurd (cc)
+meant-leaves floor resent (EndStatus status) (FinalOf ShortOf) view is success leaves = absurd (not-short _ _ _ _ (is []))

@@ -4,3 +4,4 @@ pub mod Sending
 pub mod Asking
 pub mod Polling
 pub mod Trying
+pub mod Restarting

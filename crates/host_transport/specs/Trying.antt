@@ -1,5 +1,5 @@
 -- The tries of a command on a wire.
-use Rattle.std.specs.Prelude.{◌≡◌, ◌<◌, ◌+◌, ℕ, ⊤, false, List}
+use Rattle.std.specs.Prelude.{◌≡◌, ◌≤◌, ◌<◌, ◌+◌, ℕ, ⊤, false, List}
 use Rattle.ec_model.specs.Packet.{RequestView}
 use Rattle.ec_model.specs.Asks.{Got, send_room}
 use Rattle.ec_model.specs.Polls.{AsksWhenIdle}
@@ -40,12 +40,12 @@ TriesOnceOn floor request want end old new = OnWire (λ setting view added. Trie
 abbrev pub TriesOn : ℕ → RequestView → ℕ → Answer → WireView → WireView → Type 0
 TriesOn floor request want said old new = OnWire (λ setting view added. Tries setting request want view added said) floor old new
 
--- what is known of the wire behind a command: why it was given up
+-- what is known of the wire behind a command: why it was given up, and that a success, which is told as Ok, left room for a wait
 abbrev pub SaidLeaves : ℕ → Said → WireView → Type 0
 SaidLeaves floor NoPower view = view.on ≡ false
 SaidLeaves floor Short view = view.spare < floor + send_room
-SaidLeaves floor Ok view = ⊤
-SaidLeaves floor (Status status) view = ⊤
+SaidLeaves floor Ok view = 1 ≤ view.spare
+SaidLeaves floor (Status status) view = ¬ (status ≡ 0)
 SaidLeaves floor Upset view = ⊤
 
 -- the same behind a try

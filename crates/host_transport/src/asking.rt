@@ -15,7 +15,7 @@ use ec_packet::{Packet, Request};
 use ec_wire::Wire;
 
 // The room that one send may take.
-const SEND_ROOM: usize = 1500;
+pub const SEND_ROOM: usize = 1500;
 
 /// How one ask of a command ended.
 #[derive(Clone, Copy, Debug, PartialEq, Eq)]

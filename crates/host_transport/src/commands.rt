@@ -39,6 +39,8 @@ pub fn command<W: Wire>(
         (W.view w.old) (W.view w.new) }
     ensures no_power { result ≡ Said.NoPower → (W.view w.new).on ≡ false }
     ensures short { result ≡ Said.Short → (W.view w.new).spare < floor + 1500 }
+    ensures success { ¬ (result ≡ Said.Status 0) }
+    ensures room { result ≡ Said.Ok → 1 ≤ (W.view w.new).spare }
 {
     let request = Request {
         command,

@@ -8,17 +8,15 @@ ghost use Rattle.host_transport.specs.Polling.{turn_view, end_view, TakesTurnOn,
 use crate::asking::{Got, ask};
 use crate::sending::reply_body;
 use ec_packet::{Packet, Request};
+use ec_params::command::GET_COMMS_STATUS;
 use ec_types::status;
 use ec_wire::Wire;
 
-// How many turns a poll has at most.
-const POLL_TURNS: u16 = 1100;
+/// How many turns a poll has at most, and how many looks a restart.
+pub const POLL_TURNS: u16 = 1100;
 
-// GET_COMMS_STATUS (EC_CMD_GET_COMMS_STATUS)
-const GET_COMMS_STATUS: u16 = 0x0009;
-
-// How many bytes the body of its reply has.
-const COMMS_STATUS_LENGTH: usize = 4;
+/// How many bytes the body of a reply to GET_COMMS_STATUS has.
+pub const COMMS_STATUS_LENGTH: usize = 4;
 
 // The bit that says that an erase is pending (EC_COMMS_STATUS_PROCESSING); it is in the body's first byte.
 const PROCESSING: u8 = 0x01;
@@ -45,8 +43,8 @@ pub enum PollEnd {
     Short,
 }
 
-// Whether an erase is pending, by the body of a reply to GET_COMMS_STATUS.
-fn is_pending(body: &[u8]) -> bool
+/// Whether an erase is pending, by the body of a reply to GET_COMMS_STATUS.
+pub fn is_pending(body: &[u8]) -> bool
     ensures { result ≡ has_bit 0x01 (u32_at 0 body.now) }
 {
     match body.first() {

@@ -12,11 +12,9 @@ use crate::asking::{Got, ask};
 use crate::ending::Said;
 use crate::polling::{PollEnd, poll};
 use ec_packet::{Packet, Request};
+use ec_params::command::RESEND_RESPONSE;
 use ec_types::status;
 use ec_wire::Wire;
-
-// RESEND_RESPONSE (EC_CMD_RESEND_RESPONSE)
-const RESEND_RESPONSE: u16 = 0x00DB;
 
 /// What a try means for its command.
 #[derive(Clone, Copy, Debug, PartialEq, Eq)]
@@ -44,7 +42,8 @@ fn is_unclean(answer: u16) -> bool
 
 // What the end of the last ask of a try means, which asked for the saved status where it is `resent`.
 fn meant(resent: bool, got: Got) -> TryEnd
-    ensures { (body : List ℕ) → try_of result body ≡ try_end resent (got_of got body) }
+    ensures end { (body : List ℕ) → try_of result body ≡ try_end resent (got_of got body) }
+    ensures success { ¬ (result ≡ TryEnd.Final (Said.Status 0)) }
 {
     match got {
         Got::NoPower => TryEnd::Final(Said::NoPower),
