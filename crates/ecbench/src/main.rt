@@ -23,6 +23,8 @@ mod testing;
 #[cfg(test)]
 mod tests;
 mod tracing;
+#[cfg(test)]
+mod upset_tests;
 
 use bench_io::{FileFlash, StdSink, StdSource};
 use bench_words::Word;

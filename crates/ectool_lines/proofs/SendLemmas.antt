@@ -4,7 +4,7 @@ use Rattle.std.proofs.Math.Nat.{div-le_of_le-mul, div-mul-le_self, mul-le-mul_ri
 use Rattle.std.proofs.lemmas.Bool.{cases_lt}
 use Rattle.std.proofs.lemmas.Bool.Decides.{eqb_tells}
 use Rattle.ec_model.proofs.GuardSteps.{if_cases}
-use Rattle.std.specs.Prelude.{replicate, IsTrue}
+use Rattle.std.specs.Prelude.{replicate}
 use Rattle.std.proofs.lemmas.List.{length-take, length-append, length-replicate}
 use Rattle.ec_types.specs.Tables.{packet_limit}
 use Rattle.ec_types.specs.declared.bus.BusKind.{BusKind}
@@ -23,20 +23,22 @@ use Rattle.exchange_laws.proofs.Spelled.{plain-spelled}
 use Rattle.ec_model.specs.HostCalls.{HostView}
 use Rattle.ec_model.specs.Tries.{Said, Answered}
 use Rattle.command_laws.specs.Carried.{tells_any}
+use Rattle.command_laws.specs.Restarting.{RestartEnd, Sent as RestartSent, NoPower as RestartNoPower, Upset as RestartUpset, Short as RestartShort}
 use Rattle.command_laws.proofs.Sized.{tries-sized}
 use Rattle.host_transport.specs.Asking.{host_view}
 use Rattle.host_transport.specs.Once.{Ending, Said as Told, Bad as BadEnding, Silent as SilentEnding, NoPower as OffEnding, AskedOnce, AsksOnce, ended, heard_as}
+use Rattle.host_transport.specs.Restarting.{RestartsOn}
 use Rattle.host_transport.specs.Trying.{said_of, TriesOn}
 use Rattle.host_transport.specs.declared.ending.Said.{Said as SaidOf}
 use Rattle.host_transport.specs.declared.ending.Said.TheVariants.{Ok, Status, NoPower, Upset, Short}
 use Rattle.host_transport.proofs.WireParts.{view-after}
 use Rattle.ectool_lines.specs.declared.tool.Tool.{Tool}
-use Rattle.ectool_lines.specs.declared.tool.Tool.TheVariants.{Hello, Version, ChipInfo, CmdVersions, ProtoInfo, FlashInfo, RegionInfo, FlashRead, FlashWrite, FlashProtect, Hash, HashAbort, HashStart, HashRange, Sysinfo, Reboot, Test, Resend}
-use Rattle.ectool_lines.specs.Tools.{is_reboot, IsInRange}
-use Rattle.ectool_lines.specs.Requests.{Asked, request_of, packet_of, first_of, parts_of, count_of, image_offset, command_of, commands_of}
+use Rattle.ectool_lines.specs.declared.tool.Tool.TheVariants.{Hello, Version, ChipInfo, CmdVersions, ProtoInfo, FlashInfo, RegionInfo, FlashRead, FlashWrite, FlashErase, FlashProtect, Hash, HashAbort, HashStart, HashRange, Sysinfo, Reboot, RebootCold, Test, Resend}
+use Rattle.ectool_lines.specs.Tools.{IsInRange}
+use Rattle.ectool_lines.specs.Requests.{Asked, Way, Once, Restart, Try, way_of, is_cold, request_of, packet_of, first_of, parts_of, count_of, image_offset, command_of, commands_of}
 use Rattle.ectool_lines.specs.Sending.{most_text, IsReply}
 use Rattle.ectool_lines.specs.Texts.{Succeeded, Stopped, printed, replies_text, reply_text, closing_text, refusal_text}
-use Rattle.ectool_lines.specs.Asking.{AllSucceed, IsSuccess, StopsAt, said_once, IsSentOnce, GoesBy, Hears, HearsOn, CarriesTool}
+use Rattle.ectool_lines.specs.Asking.{AllSucceed, IsSuccess, StopsAt, said_once, said_restart, GoesBy, Hears, HearsOn, CarriesTool}
 
 -- one more success behind others
 pub succeed-more : {State : Type 0} (asks : State → Asked → List Entry → Said → State → Type 0) (old : State) (commands : List Asked) (entries : List Entry) (bodies : List (List ℕ)) (middle : State) (asked : Asked) (last : List Entry) (body : List ℕ) (new : State) →
@@ -120,32 +122,54 @@ pub record Went (tool : Tool) (k : ℕ) (old new : WireView) (text : List ℕ) :
 pub went-nothing : (tool : Tool) (view : WireView) → Went tool 0 view view []
 went-nothing tool view = record { added = []; bodies = []; grows = grows-nil view; succeeded = (refl, refl, refl); text_is = refl }
 
--- a command that was sent once
-pub hears-once : (asked : Asked) (ending : Ending) (said : Said) (old new : WireView) → tells_any asked.command ≡ true → said ≡ said_once ending → AsksOnce (packet_of asked) asked.want ending old new → HearsOn asked said old new
-hears-once asked ending said old new once same asks =
-    let sent : IsSentOnce old.bus old.on asked asks.added said = record { ending = ending; once = asks.asked; said_is = same } in
+-- how a command goes, by the two tests
+way-once : (asked : Asked) → tells_any asked.command ≡ true → way_of asked ≡ Once
+way-once asked once = ap (λ (test : Bool). if test then Once else if is_cold asked then Restart else Try) once
+
+way-restart : (asked : Asked) → tells_any asked.command ≡ false → is_cold asked ≡ true → way_of asked ≡ Restart
+way-restart asked other cold = ap (λ (test : Bool). if test then Once else if is_cold asked then Restart else Try) other ∙ ap (λ (test : Bool). if test then Restart else Try) cold
+
+way-try : (asked : Asked) → tells_any asked.command ≡ false → is_cold asked ≡ false → way_of asked ≡ Try
+way-try asked other warm = ap (λ (test : Bool). if test then Once else if is_cold asked then Restart else Try) other ∙ ap (λ (test : Bool). if test then Restart else Try) warm
+
+-- the tests behind a way
+pub once-test : (once cold : Bool) → (if once then Once else if cold then Restart else Try) ≡ Once → once ≡ true
+once-test true cold same = refl
+once-test false true same = absurd (cc)
+once-test false false same = absurd (cc)
+
+pub try-test : (once cold : Bool) → (if once then Once else if cold then Restart else Try) ≡ Try → (once ≡ false) × (cold ≡ false)
+try-test true cold same = absurd (cc)
+try-test false true same = absurd (cc)
+try-test false false same = (refl, refl)
+
+-- what is heard of a command that went its way
+hears-by : (way : Way) (asked : Asked) (said : Said) (added : List Entry) (old new : WireView) → way_of asked ≡ way → Grows added old new → GoesBy way old.bus (host_view old) asked added said → HearsOn asked said old new
+hears-by way asked said added old new is grows goes =
     record {
-      added = asks.added;
-      grows = asks.grows;
+      added = added;
+      grows = grows;
       hears = record {
-        goes = subst (λ (test : Bool). GoesBy test old.bus (host_view old) asked asks.added said) (sym once) sent;
-        steps = asks.grows.steps;
-        after_is = view-after asks.added old new asks.grows;
+        goes = subst (λ (w : Way). GoesBy w old.bus (host_view old) asked added said) (sym is) goes;
+        steps = grows.steps;
+        after_is = view-after added old new grows;
       };
     }
 
+-- a command that was sent once
+pub hears-once : (asked : Asked) (ending : Ending) (said : Said) (old new : WireView) → tells_any asked.command ≡ true → said ≡ said_once ending → AsksOnce (packet_of asked) asked.want ending old new → HearsOn asked said old new
+hears-once asked ending said old new once same asks =
+    hears-by Once asked said asks.added old new (way-once asked once) asks.grows (record { ending = ending; once = asks.asked; said_is = same })
+
+-- a restart
+pub hears-restart : (asked : Asked) (end : RestartEnd) (said : Said) (old new : WireView) → tells_any asked.command ≡ false → is_cold asked ≡ true → said ≡ said_restart end → RestartsOn 0 end old new → HearsOn asked said old new
+hears-restart asked end said old new other cold same restarts =
+    hears-by Restart asked said restarts.added old new (way-restart asked other cold) restarts.grows (record { end = end; restarts = restarts.part; said_is = same })
+
 -- a command that was tried
-pub hears-tried : (asked : Asked) (said : Said) (old new : WireView) → tells_any asked.command ≡ false → TriesOn 0 (request_of asked) asked.want said old new → HearsOn asked said old new
-hears-tried asked said old new tried tries =
-    record {
-      added = tries.added;
-      grows = tries.grows;
-      hears = record {
-        goes = subst (λ (test : Bool). GoesBy test old.bus (host_view old) asked tries.added said) (sym tried) tries.part;
-        steps = tries.grows.steps;
-        after_is = view-after tries.added old new tries.grows;
-      };
-    }
+pub hears-tried : (asked : Asked) (said : Said) (old new : WireView) → tells_any asked.command ≡ false → is_cold asked ≡ false → TriesOn 0 (request_of asked) asked.want said old new → HearsOn asked said old new
+hears-tried asked said old new other warm tries =
+    hears-by Try asked said tries.added old new (way-try asked other warm) tries.grows tries.part
 
 -- a reply of a request that was sent once and answered with success, by two tests
 told-by : (on success fits : Bool) (want status : ℕ) (told body : List ℕ) → (status == 0) ≡ success → (length told == want) ≡ fits → ended on (if success && not fits then BadEnding else Told status told) ≡ Told 0 body → length body ≡ want
@@ -178,14 +202,21 @@ once-success BadEnding body same = absurd (cc)
 once-success SilentEnding body same = absurd (cc)
 once-success OffEnding body same = absurd (cc)
 
-goes-sized : (once : Bool) (bus : BusKind) (view : HostView) (asked : Asked) (entries : List Entry) (body : List ℕ) → GoesBy once bus view asked entries (Answered 0 body) → (length body ≡ asked.want) ⊎ (body ≡ [])
-goes-sized true bus view asked entries body goes = inl (asked-sized view.on bus (packet_of asked) asked.want entries goes.ending body goes.once (once-success goes.ending body (sym goes.said_is)))
-goes-sized false bus view asked entries body goes = tries-sized (record { bus = bus; floor = 0 }) (request_of asked) asked.want view entries (Answered 0 body) body goes refl
+restart-sized : (end : RestartEnd) (body : List ℕ) → said_restart end ≡ Answered 0 body → body ≡ []
+restart-sized RestartSent body same = sym (ap said_body same)
+restart-sized RestartNoPower body same = absurd (cc)
+restart-sized RestartUpset body same = absurd (cc)
+restart-sized RestartShort body same = absurd (cc)
+
+goes-sized : (way : Way) (bus : BusKind) (view : HostView) (asked : Asked) (entries : List Entry) (body : List ℕ) → GoesBy way bus view asked entries (Answered 0 body) → (length body ≡ asked.want) ⊎ (body ≡ [])
+goes-sized Once bus view asked entries body goes = inl (asked-sized view.on bus (packet_of asked) asked.want entries goes.ending body goes.once (once-success goes.ending body (sym goes.said_is)))
+goes-sized Restart bus view asked entries body goes = inr (restart-sized goes.end body (sym goes.said_is))
+goes-sized Try bus view asked entries body goes = tries-sized (record { bus = bus; floor = 0 }) (request_of asked) asked.want view entries (Answered 0 body) body goes refl
 
 -- a success has as many bytes as are wanted, or none
 pub hears-sized : (asked : Asked) (said : Said) (body : List ℕ) (old new : WireView) → said ≡ Answered 0 body → HearsOn asked said old new → (length body ≡ asked.want) ⊎ (body ≡ [])
 hears-sized asked said body old new same hears =
-    goes-sized (tells_any asked.command) old.bus (host_view old) asked hears.added body (subst (λ (s : Said). GoesBy (tells_any asked.command) old.bus (host_view old) asked hears.added s) same (hears.hears).goes)
+    goes-sized (way_of asked) old.bus (host_view old) asked hears.added body (subst (λ (s : Said). GoesBy (way_of asked) old.bus (host_view old) asked hears.added s) same (hears.hears).goes)
 
 -- what is heard of a command of a line, behind others
 heard-behind : (asked command : Asked) (said : Said) (old middle new : WireView) → asked ≡ command → middle.bus ≡ old.bus → (hears : HearsOn asked said middle new) → Hears old.bus (host_view middle) command hears.added said (host_view new)
@@ -286,6 +317,7 @@ count-few limit FlashInfo large within = omega arith
 count-few limit (RegionInfo region) large within = omega arith
 count-few limit (FlashRead at size) large within = parts-few (limit - 8) size (omega (arith, large)) within
 count-few limit (FlashWrite at bytes) large within = parts-few (limit - 16) (length bytes) (omega (arith, large)) within.1
+count-few limit (FlashErase at size) large within = omega arith
 count-few limit (FlashProtect mask flags) large within = omega arith
 count-few limit Hash large within = omega arith
 count-few limit HashAbort large within = omega arith
@@ -293,6 +325,7 @@ count-few limit (HashStart image nonce) large within = omega arith
 count-few limit (HashRange at size) large within = omega arith
 count-few limit Sysinfo large within = omega arith
 count-few limit (Reboot cmd) large within = omega arith
+count-few limit RebootCold large within = omega arith
 count-few limit (Test ec_result ret_len bytes) large within = omega arith
 count-few limit Resend large within = omega arith
 
@@ -327,6 +360,7 @@ text-short limit FlashInfo k small within there = none-before k 500 there (omega
 text-short limit (RegionInfo region) k small within there = none-before k 500 there (omega arith)
 text-short limit (FlashRead at size) k small within there = omega (arith, small, twice k (limit - 8), parts-before (limit - 8) size k within there)
 text-short limit (FlashWrite at bytes) k small within there = omega arith
+text-short limit (FlashErase at size) k small within there = none-before k 500 there (omega arith)
 text-short limit (FlashProtect mask flags) k small within there = none-before k 500 there (omega arith)
 text-short limit Hash k small within there = none-before k 500 there (omega arith)
 text-short limit HashAbort k small within there = none-before k 500 there (omega arith)
@@ -334,6 +368,7 @@ text-short limit (HashStart image nonce) k small within there = none-before k 50
 text-short limit (HashRange at size) k small within there = none-before k 500 there (omega arith)
 text-short limit Sysinfo k small within there = none-before k 500 there (omega arith)
 text-short limit (Reboot cmd) k small within there = none-before k 500 there (omega arith)
+text-short limit RebootCold k small within there = omega (arith, there)
 text-short limit (Test ec_result ret_len bytes) k small within there = none-before k (2 * (limit - 8)) there (omega (arith, small))
 text-short limit Resend k small within there = none-before k 500 there (omega arith)
 
@@ -348,6 +383,7 @@ text-more FlashInfo size most short = omega arith
 text-more (RegionInfo region) size most short = omega arith
 text-more (FlashRead at count) size most short = omega (arith, short)
 text-more (FlashWrite at bytes) size most short = omega arith
+text-more (FlashErase at count) size most short = omega arith
 text-more (FlashProtect mask flags) size most short = omega arith
 text-more Hash size most short = omega arith
 text-more HashAbort size most short = omega arith
@@ -355,6 +391,7 @@ text-more (HashStart image nonce) size most short = omega arith
 text-more (HashRange at count) size most short = omega arith
 text-more Sysinfo size most short = omega arith
 text-more (Reboot cmd) size most short = omega arith
+text-more RebootCold size most short = omega arith
 text-more (Test ec_result ret_len bytes) size most short = omega (arith, short)
 text-more Resend size most short = omega arith
 
@@ -390,6 +427,7 @@ command-short limit FlashInfo k large within = omega (arith, large)
 command-short limit (RegionInfo region) k large within = omega (arith, large)
 command-short limit (FlashRead at size) k large within = omega (arith, large)
 command-short limit (FlashWrite at bytes) k large within = write-short limit ((at + k * (limit - 16)) % 2 ^ 32) (take (limit - 16) (drop (k * (limit - 16)) bytes)) large (part-short (limit - 16) (k * (limit - 16)) bytes)
+command-short limit (FlashErase at size) k large within = omega (arith, large)
 command-short limit (FlashProtect mask flags) k large within = omega (arith, large)
 command-short limit Hash k large within = omega (arith, large)
 command-short limit HashAbort k large within = omega (arith, large)
@@ -397,6 +435,8 @@ command-short limit (HashStart image nonce) k large within = omega (arith, large
 command-short limit (HashRange at size) k large within = omega (arith, large)
 command-short limit Sysinfo k large within = omega (arith, large)
 command-short limit (Reboot cmd) k large within = omega (arith, large)
+command-short limit RebootCold zero large within = omega (arith, large)
+command-short limit RebootCold (suc k) large within = omega (arith, large)
 command-short limit (Test ec_result ret_len bytes) k large within = omega (arith, large, test-short ec_result ret_len bytes within.2)
 command-short limit Resend k large within = omega (arith, large)
 
@@ -411,6 +451,7 @@ command-wants limit FlashInfo k large within = omega (arith, large)
 command-wants limit (RegionInfo region) k large within = omega (arith, large)
 command-wants limit (FlashRead at size) k large within = omega (arith, large)
 command-wants limit (FlashWrite at bytes) k large within = omega (arith, large)
+command-wants limit (FlashErase at size) k large within = omega (arith, large)
 command-wants limit (FlashProtect mask flags) k large within = omega (arith, large)
 command-wants limit Hash k large within = omega (arith, large)
 command-wants limit HashAbort k large within = omega (arith, large)
@@ -418,46 +459,23 @@ command-wants limit (HashStart image nonce) k large within = omega (arith, large
 command-wants limit (HashRange at size) k large within = omega (arith, large)
 command-wants limit Sysinfo k large within = omega (arith, large)
 command-wants limit (Reboot cmd) k large within = omega (arith, large)
+command-wants limit RebootCold zero large within = omega (arith, large)
+command-wants limit RebootCold (suc k) large within = omega (arith, large)
 command-wants limit (Test ec_result ret_len bytes) k large within = omega (arith, large, within.0)
 command-wants limit Resend k large within = omega (arith, large)
 
--- a cmd that a line may send is not that of a COLD
-not-four : (cmd : ℕ) (four : Bool) → (cmd == 4) ≡ four → IsTrue (is_reboot cmd) → four ≡ false
-not-four cmd false same within = refl
-not-four cmd true same within = let cold : is_reboot 4 ≡ true = subst (λ (n : ℕ). is_reboot n ≡ true) (eq-of cmd 4 same) within in cc
-
--- a number of 16 bits, and no COLD
-abbrev IsNoCold : Asked → Type 0
-IsNoCold asked = (asked.command < 2 ^ 16) × (((asked.command == 0xD2) && is_cold_body asked.body) ≡ false)
-
--- no line sends a COLD
-command-no_cold : (limit : ℕ) (tool : Tool) (k : ℕ) → IsInRange tool → IsNoCold (command_of limit tool k)
-command-no_cold limit Hello k within = (omega arith, refl)
-command-no_cold limit Version k within = (omega arith, refl)
-command-no_cold limit ChipInfo k within = (omega arith, refl)
-command-no_cold limit (CmdVersions number) k within = (omega arith, refl)
-command-no_cold limit ProtoInfo k within = (omega arith, refl)
-command-no_cold limit FlashInfo k within = (omega arith, refl)
-command-no_cold limit (RegionInfo region) k within = (omega arith, refl)
-command-no_cold limit (FlashRead at size) k within = (omega arith, refl)
-command-no_cold limit (FlashWrite at bytes) k within = (omega arith, refl)
-command-no_cold limit (FlashProtect mask flags) k within = (omega arith, refl)
-command-no_cold limit Hash k within = (omega arith, refl)
-command-no_cold limit HashAbort k within = (omega arith, refl)
-command-no_cold limit (HashStart image nonce) k within = (omega arith, refl)
-command-no_cold limit (HashRange at size) k within = (omega arith, refl)
-command-no_cold limit Sysinfo k within = (omega arith, refl)
-command-no_cold limit (Reboot cmd) k within = (omega arith, ap (λ (four : Bool). four && true) (not-four cmd (cmd == 4) refl within))
-command-no_cold limit (Test ec_result ret_len bytes) k within = (omega arith, refl)
-command-no_cold limit Resend k within = (omega arith, refl)
-
 -- a command that is no COLD, as it is spelled
-plain-at : (asked : Asked) → IsNoCold asked → 8 + length asked.body ≤ 544 → IsPlain (packet_of asked)
-plain-at asked (small, other) short = plain-spelled asked.command asked.version asked.body small (omega (arith, short)) other
+pub plain-at : (asked : Asked) → asked.command < 65536 → is_cold asked ≡ false → 8 + length asked.body ≤ 544 → IsPlain (packet_of asked)
+plain-at asked small other short = plain-spelled asked.command asked.version asked.body small (omega (arith, short)) other
 
--- no command of a line is a COLD
-pub command-plain : (limit : ℕ) (tool : Tool) (k : ℕ) → 128 ≤ limit → limit ≤ 544 → IsInRange tool → IsPlain (packet_of (command_of limit tool k))
-command-plain limit tool k large small within = plain-at (command_of limit tool k) (command-no_cold limit tool k within) (omega (arith, small, command-short limit tool k large within))
+-- a command that is sent once is no COLD
+pub once-plain : (asked : Asked) → tells_any asked.command ≡ true → is_cold asked ≡ false
+once-plain asked once = by (asked.command == 0xD2) refl where
+  by : (test : Bool) → (asked.command == 0xD2) ≡ test → (test && is_cold_body asked.body) ≡ false
+  by false same = refl
+  by true same =
+      let reboot : tells_any 0xD2 ≡ true = subst (λ (n : ℕ). tells_any n ≡ true) (eq-of asked.command 0xD2 same) once in
+      absurd (cc)
 
 -- a command that is sent once is the first of its line
 pub once-first : (limit : ℕ) (tool : Tool) (k : ℕ) → k < count_of limit tool → tells_any (command_of limit tool k).command ≡ true → k ≡ 0
@@ -470,6 +488,7 @@ once-first limit FlashInfo k there once = omega (arith, there)
 once-first limit (RegionInfo region) k there once = omega (arith, there)
 once-first limit (FlashRead at size) k there once = absurd (cc)
 once-first limit (FlashWrite at bytes) k there once = absurd (cc)
+once-first limit (FlashErase at size) k there once = omega (arith, there)
 once-first limit (FlashProtect mask flags) k there once = omega (arith, there)
 once-first limit Hash k there once = omega (arith, there)
 once-first limit HashAbort k there once = omega (arith, there)
@@ -477,6 +496,8 @@ once-first limit (HashStart image nonce) k there once = omega (arith, there)
 once-first limit (HashRange at size) k there once = omega (arith, there)
 once-first limit Sysinfo k there once = omega (arith, there)
 once-first limit (Reboot cmd) k there once = omega (arith, there)
+once-first limit RebootCold zero there once = refl
+once-first limit RebootCold (suc k) there once = absurd (cc)
 once-first limit (Test ec_result ret_len bytes) k there once = omega (arith, there)
 once-first limit Resend k there once = omega (arith, there)
 
@@ -501,6 +522,7 @@ command-number limit FlashInfo k = omega arith
 command-number limit (RegionInfo region) k = omega arith
 command-number limit (FlashRead at size) k = omega arith
 command-number limit (FlashWrite at bytes) k = omega arith
+command-number limit (FlashErase at size) k = omega arith
 command-number limit (FlashProtect mask flags) k = omega arith
 command-number limit Hash k = omega arith
 command-number limit HashAbort k = omega arith
@@ -508,5 +530,7 @@ command-number limit (HashStart image nonce) k = omega arith
 command-number limit (HashRange at size) k = omega arith
 command-number limit Sysinfo k = omega arith
 command-number limit (Reboot cmd) k = omega arith
+command-number limit RebootCold zero = omega arith
+command-number limit RebootCold (suc k) = omega arith
 command-number limit (Test ec_result ret_len bytes) k = omega arith
 command-number limit Resend k = omega arith

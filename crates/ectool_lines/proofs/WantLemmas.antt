@@ -1,5 +1,5 @@
 -- A success of a line's command has as many bytes as the line wants.
-use Rattle.std.proofs.Common.{◌≡◌, refl, sym, ◌∙◌, subst, ℕ, ◌+◌, ◌-◌, ◌*◌, ◌%◌, ◌^◌, ◌<◌, ◌≤◌, ◌==◌, Bool, true, false, not, ◌&&◌, ◌||◌, nat_lt, if◌then◌else◌, List, [], ◌∷◌, ◌++◌, length, take, drop, min, Option, Some, None, Result, Ok, Err, arith, length-take}
+use Rattle.std.proofs.Common.{◌≡◌, refl, sym, ◌∙◌, subst, ℕ, zero, suc, ◌+◌, ◌-◌, ◌*◌, ◌%◌, ◌^◌, ◌<◌, ◌≤◌, ◌==◌, Bool, true, false, not, ◌&&◌, ◌||◌, nat_lt, if◌then◌else◌, List, [], ◌∷◌, ◌++◌, length, take, drop, min, Option, Some, None, Result, Ok, Err, arith, length-take}
 use Rattle.std.specs.Prelude.{is_some, replicate, slice_index, take_while}
 use Rattle.std.proofs.lemmas.List.{length-drop, length-append}
 use Rattle.std.proofs.lemmas.Bool.Decides.{leb_tells, eqb_tells}
@@ -8,7 +8,7 @@ use Rattle.ec_types.specs.declared.image.ImageCopy.{ImageCopy}
 use Rattle.ec_types.specs.declared.image.ImageCopy.TheVariants as copy
 use Rattle.ec_model.specs.declared.live.HashView.{HashView}
 use Rattle.ec_model.specs.declared.live.HashView.TheVariants.{Idle, Busy, Done}
-use Rattle.ec_model.specs.Bodies.{hello_ask, cmd_versions_ask1, region_info_ask, test_ask, flash_read_ask, flash_protect_ask, version_say, vboot_hash_ask, reboot_ask}
+use Rattle.ec_model.specs.Bodies.{hello_ask, cmd_versions_ask1, region_info_ask, test_ask, flash_read_ask, flash_erase_ask, flash_protect_ask, version_say, vboot_hash_ask, reboot_ask}
 use Rattle.ec_model.specs.Packet.{RequestView, request_packet}
 use Rattle.ec_model.specs.Ranges.{Range, part, ends_within, region_range}
 use Rattle.ec_model.specs.Commands as table
@@ -19,13 +19,15 @@ use Rattle.ec_model.specs.Jump.{same_copy, is_denied, has_vector}
 use Rattle.ec_model.specs.RebootRow.{jump_row, reboot_row}
 use Rattle.ec_model.specs.Table.{Core, IsHashable, is_blocked}
 use Rattle.ec_model.specs.Answer.{Outcome, Answered, Restarts, done, unless_refused}
-use Rattle.ec_model.specs.FlashRows.{asked_range, flash_read_row, flash_write_row, written, is_whole_units}
+use Rattle.flash_dev.specs.Flash.{block_size}
+use Rattle.ec_model.specs.Erasing.{asked_job, with_job}
+use Rattle.ec_model.specs.FlashRows.{asked_range, flash_read_row, flash_write_row, flash_erase_row, written, is_whole_units}
 use Rattle.ec_model.specs.Handle.{Admitted, row, row_of, admitted_by, admitted_from, handled}
 use Rattle.ec_model.proofs.GuardSteps.{if_cases}
 use Rattle.ec_model.proofs.ValidRows.{IsCoreValid}
 use Rattle.exchange_laws.proofs.Spelled.{framing-spelled}
 use Rattle.ectool_lines.specs.declared.tool.Tool.{Tool}
-use Rattle.ectool_lines.specs.declared.tool.Tool.TheVariants.{Hello, Version, ChipInfo, CmdVersions, ProtoInfo, FlashInfo, RegionInfo, FlashRead, FlashWrite, FlashProtect, Hash, HashAbort, HashStart, HashRange, Sysinfo, Reboot, Test, Resend}
+use Rattle.ectool_lines.specs.declared.tool.Tool.TheVariants.{Hello, Version, ChipInfo, CmdVersions, ProtoInfo, FlashInfo, RegionInfo, FlashRead, FlashWrite, FlashErase, FlashProtect, Hash, HashAbort, HashStart, HashRange, Sysinfo, Reboot, RebootCold, Test, Resend}
 use Rattle.ectool_lines.specs.Tools.{IsInRange}
 use Rattle.ectool_lines.specs.Requests.{region_number, image_offset, packet_of, command_of}
 use Rattle.ectool_lines.proofs.SendLemmas.{command-short, padded-length, hash-length}
@@ -67,6 +69,16 @@ write-row-wanted : (core : Core) (version : ℕ) (body : List ℕ) → HasWanted
 write-row-wanted core version body =
     let refusal : Option ℕ → Type 0 = λ refused. HasWanted 0 (unless_refused refused core (done (written (u32_at 0 body) (drop 8 body) core))) in
     if_cases refusal (not (is_whole_units 4 core (asked_range body)) || ((version == 0) && nat_lt 64 (asked_range body).size)) (Some 3) (if is_blocked (length core.flash) core.live (asked_range body) then Some 4 else None)
+    (λ outside. refusal-wanted 0 core 3 (omega arith) (omega arith))
+    (λ within. if_cases refusal (is_blocked (length core.flash) core.live (asked_range body)) (Some 4) None
+    (λ blocked. refusal-wanted 0 core 4 (omega arith) (omega arith))
+    (λ open_. (omega arith, λ none. refl)))
+
+-- FLASH_ERASE
+erase-row-wanted : (core : Core) (body : List ℕ) → HasWanted 0 (flash_erase_row core body)
+erase-row-wanted core body =
+    let refusal : Option ℕ → Type 0 = λ refused. HasWanted 0 (unless_refused refused core (Answered (with_job (Some (asked_job (asked_range body))) 9 core) 8 [])) in
+    if_cases refusal (not (is_whole_units block_size core (asked_range body))) (Some 3) (if is_blocked (length core.flash) core.live (asked_range body) then Some 4 else None)
     (λ outside. refusal-wanted 0 core 3 (omega arith) (omega arith))
     (λ within. if_cases refusal (is_blocked (length core.flash) core.live (asked_range body)) (Some 4) None
     (λ blocked. refusal-wanted 0 core 4 (omega arith) (omega arith))
@@ -234,6 +246,9 @@ command-wanted limit (FlashRead at size) k core large small valid within =
 command-wanted limit (FlashWrite at bytes) k core large small valid within =
     let body = (command_of limit (FlashWrite at bytes) k).body in
     spelled-wanted limit 0 core 0x12 1 body (omega arith) (omega (arith, small, command-short limit (FlashWrite at bytes) k large within)) (write-wanted limit core body)
+command-wanted limit (FlashErase at size) k core large small valid within =
+    let body = flash_erase_ask at size in
+    numbered-wanted limit 0 core 0x13 table.FlashErase body (omega arith) (omega arith) (λ found same. cc) (erase-row-wanted core body)
 command-wanted limit (FlashProtect mask flags) k core large small valid within =
     spelled-wanted limit 12 core 0x15 1 (flash_protect_ask mask flags) (omega arith) (omega arith) (protect-wanted limit core mask flags)
 command-wanted limit Hash k core large small valid within =
@@ -250,6 +265,11 @@ command-wanted limit Sysinfo k core large small valid within = numbered-wanted l
 command-wanted limit (Reboot cmd) k core large small valid within =
     let body = reboot_ask cmd 0 in
     numbered-wanted limit 0 core 0xD2 table.Reboot body (omega arith) (omega arith) (λ found same. cc) (reboot-wanted core body)
+command-wanted limit RebootCold zero core large small valid within =
+    let body = reboot_ask 4 0 in
+    numbered-wanted limit 0 core 0xD2 table.Reboot body (omega arith) (omega arith) (λ found same. cc) (reboot-wanted core body)
+command-wanted limit RebootCold (suc k) core large small valid within =
+    numbered-wanted limit 12 core 0x1C table.Sysinfo [] (omega arith) (omega arith) (λ found same. cc) (sysinfo-wanted core)
 command-wanted limit (Test ec_result ret_len bytes) k core large small valid within =
     let body = test_ask ec_result ret_len (zero_padded 32 bytes) in
     let whole = padded-length 32 bytes within.2 in

@@ -1,5 +1,5 @@
 -- How a command goes where nothing disturbs it.
-use Rattle.std.specs.Prelude.{◌≡◌, ◌+◌, ℕ, Bool, true, false, List, [], length, map}
+use Rattle.std.specs.Prelude.{◌≡◌, ◌+◌, ℕ, List, [], length, map}
 use Rattle.ec_types.specs.Tables.{packet_limit}
 use Rattle.ec_types.specs.declared.bus.BusKind.{BusKind}
 use Rattle.ec_model.specs.declared.event.Entry.{Entry}
@@ -16,25 +16,29 @@ use Rattle.exchange_laws.specs.Calm.{CallsLead}
 use Rattle.exchange_laws.specs.Resting.{is_waiting}
 use Rattle.exchange_laws.specs.Served.{LeavesCore}
 use Rattle.host_framing.specs.Room.{waiting_room}
-use Rattle.command_laws.specs.Carried.{tells_any, carried}
+use Rattle.command_laws.specs.Carried.{carried}
+use Rattle.command_laws.specs.Restarting.{restarted, restart_room}
 use Rattle.command_laws.specs.Room.{ask_room, command_room}
-use Rattle.ectool_lines.specs.Requests.{Asked, request_of}
+use Rattle.ectool_lines.specs.Requests.{Asked, Way, Once, Restart, Try, way_of, request_of}
 
--- what a command comes to: one that is sent once is handled, and any other one is carried out, past a pending erase
-abbrev pub outcome_by : Bool → ℕ → RequestView → Core → Outcome
-outcome_by true limit request core = handled core limit (request_packet_of request)
-outcome_by false limit request core = carried limit request core
+-- what a command comes to: one that is sent once is handled, a restart leaves a controller that booted, and any other one is
+-- carried out, past a pending erase
+abbrev pub outcome_by : Way → ℕ → RequestView → Core → Outcome
+outcome_by Once limit request core = handled core limit (request_packet_of request)
+outcome_by Restart limit request core = Answered (restarted core) 0 []
+outcome_by Try limit request core = carried limit request core
 
 abbrev pub outcome_of : ℕ → Asked → Core → Outcome
-outcome_of limit asked core = outcome_by (tells_any asked.command) limit (request_of asked) core
+outcome_of limit asked core = outcome_by (way_of asked) limit (request_of asked) core
 
 -- how many calls it takes
-abbrev pub room_by : Bool → BusKind → RequestView → Core → ℕ
-room_by true bus request core = ask_room bus request (handled core (packet_limit bus) (request_packet_of request))
-room_by false bus request core = command_room bus request core
+abbrev pub room_by : Way → BusKind → RequestView → Core → ℕ
+room_by Once bus request core = ask_room bus request (handled core (packet_limit bus) (request_packet_of request))
+room_by Restart bus request core = restart_room bus core.live.erase
+room_by Try bus request core = command_room bus request core
 
 abbrev pub room_of : BusKind → Asked → Core → ℕ
-room_of bus asked core = room_by (tells_any asked.command) bus (request_of asked) core
+room_of bus asked core = room_by (way_of asked) bus (request_of asked) core
 
 -- On LPC the request that waits is served first; then the command is carried out, which is said, and it leaves its core, on the
 -- same bus, and no request that waits. Each entry is that of a call that nothing disturbs, and there are just so many.

@@ -3,19 +3,19 @@
 -- How one command goes is a parameter: a relation of a state before it, the command, its entries, what is said of it and the
 -- state behind it. So the same words tell what the host sees of any controller (the state is whether it is on, and what room is
 -- left), and what becomes of a controller whose flash tells its bytes (the state is all that it holds beside that room).
-use Rattle.std.specs.Prelude.{◌≡◌, ℕ, Bool, true, false, List, [], ◌∷◌, ◌++◌, IsTrue}
+use Rattle.std.specs.Prelude.{◌≡◌, ℕ, Bool, List, [], ◌∷◌, ◌++◌, IsTrue}
 use Rattle.std.specs.List.{list_all}
 use Rattle.ec_types.specs.Tables.{packet_limit}
 use Rattle.ec_types.specs.declared.bus.BusKind.{BusKind}
 use Rattle.ec_model.specs.declared.event.Entry.{Entry}
 use Rattle.ec_model.specs.HostCalls.{HostView, view_after}
-use Rattle.ec_model.specs.Tries.{Said, Answered, SaidNoPower, SaidUpset, Tries}
+use Rattle.ec_model.specs.Tries.{Said, Answered, SaidNoPower, SaidUpset, SaidShort, Tries}
 use Rattle.ec_wire.specs.Calls.{WireView, Grows, is_wire_step}
-use Rattle.command_laws.specs.Carried.{tells_any}
+use Rattle.command_laws.specs.Restarting.{RestartEnd, Sent, NoPower as RestartNoPower, Upset as RestartUpset, Short as RestartShort, Restarts}
 use Rattle.host_transport.specs.Asking.{host_view}
 use Rattle.host_transport.specs.Once.{Ending, Said as Told, Bad, Silent, NoPower, AskedOnce}
 use Rattle.ectool_lines.specs.declared.tool.Tool.{Tool}
-use Rattle.ectool_lines.specs.Requests.{Asked, request_of, packet_of, commands_of}
+use Rattle.ectool_lines.specs.Requests.{Asked, Way, Once, Restart, Try, way_of, request_of, packet_of, commands_of}
 use Rattle.ectool_lines.specs.Texts.{LineEnd, Succeeded, Stopped, line_text, printed}
 
 -- each command was a success, with these bodies of their replies
@@ -66,14 +66,28 @@ pub record IsSentOnce (bus : BusKind) (on : Bool) (asked : Asked) (entries : Lis
   pub once : AskedOnce on bus (packet_of asked) asked.want entries ending
   pub said_is : said ≡ said_once ending
 
--- TEST_PROTOCOL and RESEND_RESPONSE are sent once; any other command is tried up to three times, with no room left to others
-abbrev pub GoesBy : Bool → BusKind → HostView → Asked → List Entry → Said → Type 0
-GoesBy true bus view asked entries said = IsSentOnce bus view.on asked entries said
-GoesBy false bus view asked entries said = Tries (record { bus = bus; floor = 0 }) (request_of asked) asked.want view entries said
+-- what is said of a restart
+abbrev pub said_restart : RestartEnd → Said
+said_restart Sent = Answered 0 []
+said_restart RestartNoPower = SaidNoPower
+said_restart RestartUpset = SaidUpset
+said_restart RestartShort = SaidShort
+
+-- the controller was restarted, and this is said of it
+pub record IsRestart (bus : BusKind) (view : HostView) (entries : List Entry) (said : Said) : Type 0 where
+  pub end : RestartEnd
+  pub restarts : Restarts (record { bus = bus; floor = 0 }) view entries end
+  pub said_is : said ≡ said_restart end
+
+-- a command by the way that it goes, with no room left to others
+abbrev pub GoesBy : Way → BusKind → HostView → Asked → List Entry → Said → Type 0
+GoesBy Once bus view asked entries said = IsSentOnce bus view.on asked entries said
+GoesBy Restart bus view asked entries said = IsRestart bus view entries said
+GoesBy Try bus view asked entries said = Tries (record { bus = bus; floor = 0 }) (request_of asked) asked.want view entries said
 
 -- what the host sees of one command: how it went, and that each entry is one that a call of a wire adds
 pub record Hears (bus : BusKind) (view : HostView) (asked : Asked) (entries : List Entry) (said : Said) (after : HostView) : Type 0 where
-  pub goes : GoesBy (tells_any asked.command) bus view asked entries said
+  pub goes : GoesBy (way_of asked) bus view asked entries said
   pub steps : IsTrue (list_all is_wire_step entries)
   pub after_is : after ≡ view_after entries view
 

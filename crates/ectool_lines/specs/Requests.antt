@@ -1,14 +1,16 @@
 -- The commands that a line sends.
-use Rattle.std.specs.Prelude.{ℕ, zero, suc, ◌+◌, ◌-◌, ◌*◌, ◌/◌, ◌%◌, ◌^◌, ◌==◌, min, if◌then◌else◌, List, [], ◌∷◌, ◌++◌, length, take, drop}
+use Rattle.std.specs.Prelude.{ℕ, zero, suc, ◌+◌, ◌-◌, ◌*◌, ◌/◌, ◌%◌, ◌^◌, Bool, ◌&&◌, ◌==◌, min, if◌then◌else◌, List, [], ◌∷◌, ◌++◌, length, take, drop}
 use Rattle.ec_model.specs.Packet.{RequestView, request_packet}
+use Rattle.exchange_laws.specs.Served.{is_cold_body}
+use Rattle.command_laws.specs.Carried.{tells_any}
 use Rattle.flash_dev.specs.declared.geometry.Region.{Region}
 use Rattle.flash_dev.specs.declared.geometry.Region.TheVariants.{Ro, Active, WpRo, Update}
 use Rattle.ec_types.specs.declared.image.ImageCopy.{ImageCopy}
 use Rattle.ec_types.specs.declared.image.ImageCopy.TheVariants as copy
-use Rattle.ec_model.specs.Bodies.{hello_ask, cmd_versions_ask1, region_info_ask, test_ask, flash_read_ask, flash_write_ask, flash_protect_ask, vboot_hash_ask, reboot_ask}
+use Rattle.ec_model.specs.Bodies.{hello_ask, cmd_versions_ask1, region_info_ask, test_ask, flash_read_ask, flash_write_ask, flash_erase_ask, flash_protect_ask, vboot_hash_ask, reboot_ask}
 use Rattle.ec_model.specs.InfoRows.{zero_padded}
 use Rattle.ectool_lines.specs.declared.tool.Tool.{Tool}
-use Rattle.ectool_lines.specs.declared.tool.Tool.TheVariants.{Hello, Version, ChipInfo, CmdVersions, ProtoInfo, FlashInfo, RegionInfo, FlashRead, FlashWrite, FlashProtect, Hash, HashAbort, HashStart, HashRange, Sysinfo, Reboot, Test, Resend}
+use Rattle.ectool_lines.specs.declared.tool.Tool.TheVariants.{Hello, Version, ChipInfo, CmdVersions, ProtoInfo, FlashInfo, RegionInfo, FlashRead, FlashWrite, FlashErase, FlashProtect, Hash, HashAbort, HashStart, HashRange, Sysinfo, Reboot, RebootCold, Test, Resend}
 
 -- a command as it is sent: its number, its version, its body, and how many bytes a reply has that is a success
 pub record Asked : Type 0 where
@@ -16,6 +18,18 @@ pub record Asked : Type 0 where
   pub version : ℕ
   pub body : List ℕ
   pub want : ℕ
+
+-- how a command goes: it is sent once; or it restarts the controller; or it is tried, up to three times
+pub data Way : Type 0 where
+  Once Restart Try : Way
+
+-- whether a command is a COLD
+abbrev pub is_cold : Asked → Bool
+is_cold asked = (asked.command == 0xD2) && is_cold_body asked.body
+
+-- TEST_PROTOCOL and RESEND_RESPONSE are sent once, a COLD restarts the controller, and any other command is tried
+abbrev pub way_of : Asked → Way
+way_of asked = if tells_any asked.command then Once else if is_cold asked then Restart else Try
 
 -- the request of a command
 abbrev pub request_of : Asked → RequestView
@@ -80,10 +94,20 @@ hash_command cmd offset size nonce want = record {
 abbrev pub hash_start_command : (offset size : ℕ) (nonce : List ℕ) → Asked
 hash_start_command offset size nonce = hash_command 2 offset size nonce 76
 
+-- a COLD
+abbrev pub cold_command : Asked
+cold_command = record { command = 0xD2; version = 0; body = reboot_ask 4 0; want = 0 }
+
+-- a COLD, and then SYSINFO
+abbrev pub restart_command : (k : ℕ) → Asked
+restart_command zero = cold_command
+restart_command (suc k) = question 0x1C 0 12
+
 -- how many commands a line sends on a bus with this packet limit
 abbrev pub count_of : (limit : ℕ) → Tool → ℕ
 count_of limit (FlashRead at size) = parts_of (limit - 8) size
 count_of limit (FlashWrite at bytes) = parts_of (limit - 16) (length bytes)
+count_of limit RebootCold = 2
 count_of limit other = 1
 
 -- command k of a line, counted from 0: part k of what is read or written
@@ -96,6 +120,7 @@ command_of limit ProtoInfo k = question 0x0B 0 12
 command_of limit FlashInfo k = question 0x10 1 24
 command_of limit (RegionInfo region) k =
     record { command = 0x16; version = 1; body = region_info_ask (region_number region); want = 8 }
+command_of limit (FlashErase at size) k = record { command = 0x13; version = 0; body = flash_erase_ask at size; want = 0 }
 command_of limit (FlashProtect mask flags) k =
     record { command = 0x15; version = 1; body = flash_protect_ask mask flags; want = 12 }
 command_of limit Hash k = hash_command 0 0 0 [] 76
@@ -104,6 +129,7 @@ command_of limit (HashStart image nonce) k = hash_start_command (image_offset im
 command_of limit (HashRange at size) k = hash_start_command at size []
 command_of limit Sysinfo k = question 0x1C 0 12
 command_of limit (Reboot cmd) k = record { command = 0xD2; version = 0; body = reboot_ask cmd 0; want = 0 }
+command_of limit RebootCold k = restart_command k
 command_of limit (Test ec_result ret_len bytes) k = test_command ec_result ret_len bytes
 command_of limit Resend k = question 0xDB 0 0
 command_of limit (FlashRead at size) k =

@@ -1,5 +1,5 @@
 -- A line, carried out and printed.
-use Rattle.std.specs.Prelude.{◌≡◌, ℕ, List, [], Option, Result, Ok, Err}
+use Rattle.std.specs.Prelude.{◌≡◌, ◌≤◌, ℕ, List, [], Option, Result, Ok, Err}
 pub use Rattle.bench_io.specs.Printing.{Appends, AppendsFront}
 use Rattle.bench_io.specs.declared.printing.PrintErr.{PrintErr}
 use Rattle.bench_io.specs.declared.printing.PrintErr.TheVariants.{Sink, NoMemory}
@@ -7,9 +7,10 @@ use Rattle.ec_wire.specs.Calls.{WireView, with_spare}
 use Rattle.ectool_lines.specs.declared.tool.Tool.{Tool}
 use Rattle.ectool_lines.specs.Asking.{CarriesTool}
 
--- room was made on the wire, and the line was carried out; this is its text
+-- room was made on the wire, for 200,000 entries at least, and the line was carried out; this is its text
 pub record Carries (tool : Tool) (text : List ℕ) (old new : WireView) : Type 0 where
   pub spare : ℕ
+  pub enough : 200000 ≤ spare
   pub carried : CarriesTool tool text (with_spare spare old) new
 
 -- the line was carried out and its text printed, all of it or at a fault of the sink a front of it; or memory was refused,

@@ -2,7 +2,7 @@
 use Rattle.std.specs.Prelude.{◌≡◌, ◌⊎◌, ℕ, ◌*◌, List, [], length}
 use Rattle.ectool_lines.specs.declared.commands.Command.{Command}
 use Rattle.ectool_lines.specs.declared.tool.Tool.{Tool}
-use Rattle.ectool_lines.specs.declared.tool.Tool.TheVariants.{Version, ChipInfo, CmdVersions, ProtoInfo, FlashInfo, RegionInfo, FlashRead, FlashWrite, FlashProtect, Hash, HashStart, HashRange, Sysinfo, Test}
+use Rattle.ectool_lines.specs.declared.tool.Tool.TheVariants.{Version, ChipInfo, CmdVersions, ProtoInfo, FlashInfo, RegionInfo, FlashRead, FlashWrite, FlashProtect, Hash, HashStart, HashRange, Sysinfo, RebootCold, Test}
 use Rattle.ectool_lines.specs.Requests.{Asked, command_of}
 
 -- the command that is sent, with its body
@@ -44,6 +44,7 @@ HasColumns Hash reply = length reply ≡ 76
 HasColumns (HashStart image nonce) reply = length reply ≡ 76
 HasColumns (HashRange at size) reply = length reply ≡ 76
 HasColumns Sysinfo reply = length reply ≡ 12
+HasColumns RebootCold reply = (length reply ≡ 12) ⊎ (reply ≡ [])
 HasColumns other reply = Unit {0}
 
 -- the body of a success: as many bytes as one of the line's commands wants, or, where a saved status was asked for, none

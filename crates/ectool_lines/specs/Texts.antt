@@ -7,7 +7,7 @@ use Rattle.hex.specs.Hex.{encode_lower}
 use Rattle.ec_types.specs.Tables.{status_name}
 use Rattle.ec_model.specs.Tries.{Said, Answered, SaidNoPower, SaidUpset, SaidShort}
 use Rattle.ectool_lines.specs.declared.tool.Tool.{Tool}
-use Rattle.ectool_lines.specs.declared.tool.Tool.TheVariants.{Hello, Version, ChipInfo, CmdVersions, ProtoInfo, FlashInfo, RegionInfo, FlashRead, FlashWrite, FlashProtect, Hash, HashAbort, HashStart, HashRange, Sysinfo, Reboot, Test, Resend}
+use Rattle.ectool_lines.specs.declared.tool.Tool.TheVariants.{Hello, Version, ChipInfo, CmdVersions, ProtoInfo, FlashInfo, RegionInfo, FlashRead, FlashWrite, FlashErase, FlashProtect, Hash, HashAbort, HashStart, HashRange, Sysinfo, Reboot, RebootCold, Test, Resend}
 
 -- a status by its number and its name
 abbrev pub status_text : ℕ → List ℕ
@@ -68,6 +68,11 @@ abbrev pub sysinfo_text : (reset_flags current flags : ℕ) → List ℕ
 sysinfo_text reset_flags current flags =
     codes "reset flags " ++ hex_text reset_flags ++ codes "\ncopy " ++ image_text current ++ codes "\nflags " ++ hex_text flags
 
+-- behind a restart, which has no reply, SYSINFO's reply on one line
+abbrev pub restart_text : List ℕ → List ℕ
+restart_text [] = []
+restart_text (byte ∷ body) = codes "reset flags " ++ hex_text (u32_at 0 (byte ∷ body))
+
 -- what the reply to one of its commands gives to a line's text
 abbrev pub reply_text : Tool → List ℕ → List ℕ
 reply_text Hello body = []
@@ -81,6 +86,7 @@ reply_text (RegionInfo region) body =
     codes "offset " ++ decimal (u32_at 0 body) ++ codes " size " ++ decimal (u32_at 4 body)
 reply_text (FlashRead at size) body = encode_lower body
 reply_text (FlashWrite at bytes) body = []
+reply_text (FlashErase at size) body = []
 reply_text (FlashProtect mask flags) body = protection_text (u32_at 0 body) (u32_at 4 body) (u32_at 8 body)
 reply_text Hash body = hash_reply body
 reply_text HashAbort body = []
@@ -88,6 +94,7 @@ reply_text (HashStart image nonce) body = hash_reply body
 reply_text (HashRange at size) body = hash_reply body
 reply_text Sysinfo body = sysinfo_text (u32_at 0 body) (u32_at 4 body) (u32_at 8 body)
 reply_text (Reboot cmd) body = []
+reply_text RebootCold body = restart_text body
 reply_text (Test ec_result ret_len bytes) body = encode_lower body
 reply_text Resend body = []
 
@@ -100,6 +107,7 @@ replies_text tool (body ∷ bodies) = reply_text tool body ++ replies_text tool 
 abbrev pub closing_text : Tool → List ℕ
 closing_text Hello = codes "EC says hello!"
 closing_text (FlashWrite at bytes) = codes "wrote " ++ decimal (length bytes) ++ codes " bytes"
+closing_text (FlashErase at size) = codes "erased " ++ decimal size ++ codes " bytes"
 closing_text HashAbort = codes "ok"
 closing_text (Reboot cmd) = codes "ok"
 closing_text Resend = codes "ok"

@@ -12,7 +12,7 @@ use Rattle.script_words.specs.Words.{words_of}
 use Rattle.script_words.specs.Lines.{checked}
 use Rattle.script_words.specs.Forms.{◌>>=◌, no_words, two_words, alone, with_one, with_two, with_three, number_to, hex_to}
 use Rattle.ectool_lines.specs.declared.tool.Tool.{Tool}
-use Rattle.ectool_lines.specs.declared.tool.Tool.TheVariants.{Hello, Version, ChipInfo, CmdVersions, ProtoInfo, FlashInfo, RegionInfo, FlashRead, FlashWrite, FlashProtect, Hash, HashAbort, HashStart, HashRange, Sysinfo, Reboot, Test, Resend}
+use Rattle.ectool_lines.specs.declared.tool.Tool.TheVariants.{Hello, Version, ChipInfo, CmdVersions, ProtoInfo, FlashInfo, RegionInfo, FlashRead, FlashWrite, FlashErase, FlashProtect, Hash, HashAbort, HashStart, HashRange, Sysinfo, Reboot, RebootCold, Test, Resend}
 
 -- the region that a word names
 abbrev pub region_named : List ℕ → Option Region
@@ -91,17 +91,18 @@ abbrev pub hash_by : List (List ℕ) → Result Tool Why
 hash_by [] = Ok Hash
 hash_by (form ∷ words) = hash_form form words
 
--- what a word asks REBOOT_EC for: nothing, a jump to RO, one to RW, or that jumps are disabled
-abbrev pub reboot_named : List ℕ → Option ℕ
+-- what a word asks REBOOT_EC for: nothing, a jump to RO, one to RW, that jumps are disabled, or a restart
+abbrev pub reboot_named : List ℕ → Option Tool
 reboot_named word =
-    if bytes_eq word (codes "cancel") then Some 0 else
-    if bytes_eq word (codes "RO") then Some 1 else
-    if bytes_eq word (codes "RW") then Some 2 else
-    if bytes_eq word (codes "disable-jump") then Some 5 else
+    if bytes_eq word (codes "cancel") then Some (Reboot 0) else
+    if bytes_eq word (codes "RO") then Some (Reboot 1) else
+    if bytes_eq word (codes "RW") then Some (Reboot 2) else
+    if bytes_eq word (codes "disable-jump") then Some (Reboot 5) else
+    if bytes_eq word (codes "cold") then Some RebootCold else
     None
 
 -- a word that asks it for something
-abbrev pub reboot_to : List ℕ → Result ℕ Why
+abbrev pub reboot_to : List ℕ → Result Tool Why
 reboot_to word = ok_or (reboot_named word) Word
 
 -- a line by its words: the first one, how many stand behind it, and what each of these is
@@ -117,10 +118,11 @@ tool_by (first ∷ words) =
     if bytes_eq first (codes "regioninfo") then with_one region_to RegionInfo words else
     if bytes_eq first (codes "flashread") then with_two (number_to 0xFFFFFFFF) (number_to 4096) FlashRead words else
     if bytes_eq first (codes "flashwrite") then with_two (number_to 0xFFFFFFFF) (hex_to 4096) FlashWrite words else
+    if bytes_eq first (codes "flasherase") then with_two (number_to 0xFFFFFFFF) (number_to 0xFFFFFFFF) FlashErase words else
     if bytes_eq first (codes "flashprotect") then protect_by words else
     if bytes_eq first (codes "echash") then hash_by words else
     if bytes_eq first (codes "sysinfo") then alone Sysinfo words else
-    if bytes_eq first (codes "reboot_ec") then with_one reboot_to Reboot words else
+    if bytes_eq first (codes "reboot_ec") then with_one reboot_to (λ tool. tool) words else
     if bytes_eq first (codes "test") then with_three (number_to 0xFFFFFFFF) (number_to 32) (hex_to 32) Test words else
     if bytes_eq first (codes "resend") then alone Resend words else
     Err Word
@@ -129,7 +131,7 @@ tool_by (first ∷ words) =
 abbrev pub tool_of : List ℕ → Result Tool Why
 tool_of line = checked line >>= λ _. tool_by (words_of line)
 
--- whether a cmd of REBOOT_EC is one that a line may send: no COLD
+-- whether a cmd of REBOOT_EC is one that a line may try: no COLD
 abbrev pub is_reboot : ℕ → Bool
 is_reboot cmd = (cmd == 0) || (cmd == 1) || (cmd == 2) || (cmd == 5)
 

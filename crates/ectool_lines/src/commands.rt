@@ -15,20 +15,20 @@ ghost use Rattle.ectool_lines.specs.Requests.{
   read_command,
   write_command,
 };
-ghost use Rattle.ec_model.specs.Bodies.{cmd_versions_ask1, region_info_ask, flash_protect_ask, reboot_ask};
+ghost use Rattle.ec_model.specs.Bodies.{cmd_versions_ask1, region_info_ask, flash_erase_ask, flash_protect_ask, reboot_ask};
 ghost use Rattle.ec_model.specs.InfoRows.{zero_padded};
 ghost use Rattle.ectool_lines.specs.Sending.{asked_of};
 
 use crate::Tool;
 use ec_packet::Packet;
 use ec_params::command::{
-    FLASH_INFO, FLASH_PROTECT, FLASH_READ, FLASH_REGION_INFO, FLASH_WRITE, GET_CHIP_INFO,
-    GET_COMMAND_VERSIONS, GET_PROTOCOL_INFO, GET_VERSION, HELLO, REBOOT_EC, RESEND_RESPONSE,
-    SYSINFO, TEST_PROTOCOL, VBOOT_HASH,
+    FLASH_ERASE, FLASH_INFO, FLASH_PROTECT, FLASH_READ, FLASH_REGION_INFO, FLASH_WRITE,
+    GET_CHIP_INFO, GET_COMMAND_VERSIONS, GET_PROTOCOL_INFO, GET_VERSION, HELLO, REBOOT_EC,
+    RESEND_RESPONSE, SYSINFO, TEST_PROTOCOL, VBOOT_HASH,
 };
 use ec_params::{
-    CmdVersionsAsk1, FlashProtectAsk, FlashReadAsk, FlashWriteAsk, HelloAsk, RebootAsk,
-    RegionInfoAsk, TestAsk, VbootHashAsk,
+    CmdVersionsAsk1, FlashEraseAsk, FlashProtectAsk, FlashReadAsk, FlashWriteAsk, HelloAsk,
+    RebootAsk, RegionInfoAsk, TestAsk, VbootHashAsk,
 };
 use ec_types::ImageCopy;
 use flash_dev::Region;
@@ -59,6 +59,7 @@ impl<'a> Tool<'a> {
         match self {
             Tool::FlashRead { at: _, size } => parts(limit - 8, *size as usize),
             Tool::FlashWrite { at: _, bytes } => parts(limit - 16, bytes.len()),
+            Tool::RebootCold => 2,
             _ => 1,
         }
     }
@@ -81,6 +82,7 @@ impl<'a> Tool<'a> {
             Tool::ProtoInfo => question(GET_PROTOCOL_INFO, 0, 12),
             Tool::FlashInfo => question(FLASH_INFO, 1, 24),
             Tool::RegionInfo { region } => region_info(*region, body),
+            Tool::FlashErase { at, size } => flash_erase(*at, *size, body),
             Tool::FlashProtect { mask, flags } => flash_protect(*mask, *flags, body),
             Tool::Hash => hash(VbootHashAsk::GET, 76, body),
             Tool::HashAbort => hash(VbootHashAsk::ABORT, 0, body),
@@ -88,6 +90,8 @@ impl<'a> Tool<'a> {
             Tool::HashRange { at, size } => hash_start(*at, *size, &HexBytes::none(), body),
             Tool::Sysinfo => question(SYSINFO, 0, 12),
             Tool::Reboot { cmd } => reboot(*cmd, body),
+            Tool::RebootCold if k == 0 => reboot(RebootAsk::COLD, body),
+            Tool::RebootCold => question(SYSINFO, 0, 12),
             Tool::Test {
                 ec_result,
                 ret_len,
@@ -182,6 +186,25 @@ fn region_info(region: Region, body: &mut Packet) -> Command
         number: FLASH_REGION_INFO,
         version: 1,
         want: 8,
+    }
+}
+
+// FLASH_ERASE.
+fn flash_erase(offset: u32, size: u32, body: &mut Packet) -> Command
+    requires { body.old ≡ [] }
+    ensures { asked_of result body.new ≡ record {
+      command = 0x13;
+      version = 0;
+      body = flash_erase_ask offset size;
+      want
+          = 0;
+    } }
+{
+    FlashEraseAsk { offset, size }.write(body);
+    Command {
+        number: FLASH_ERASE,
+        version: 0,
+        want: 0,
     }
 }
 

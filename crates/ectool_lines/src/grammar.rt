@@ -1,5 +1,5 @@
 // Reading a line.
-ghost use Rattle.std.specs.Prelude.{◌≡◌, ◌∷◌, IsTrue, IfOk, IfSome};
+ghost use Rattle.std.specs.Prelude.{◌≡◌, ◌∷◌, IfOk, IfSome};
 ghost use Rattle.ec_types.specs.declared.why.Why.TheVariants.{Word};
 ghost use Rattle.script_words.specs.Faults.{kind_of, by_kind};
 ghost use Rattle.script_words.specs.Lines.{checked};
@@ -21,28 +21,19 @@ ghost use Rattle.ectool_lines.specs.Tools.{
   hash_by,
   reboot_named,
   reboot_to,
-  is_reboot,
   tool_of,
   tool_by,
   IsInRange,
 };
 
 use crate::Tool;
+use ec_params::RebootAsk;
 use ec_types::ImageCopy;
 use flash_dev::Region;
 use script_words::{
     Fault, HexBytes, Wanted, check_line, is_word, next_word, no_words, none_or, number_to,
     one_word, three_words, two_or, two_words,
 };
-
-// What REBOOT_EC is asked for.
-const CANCEL: u8 = 0;
-
-const JUMP_TO_RO: u8 = 1;
-
-const JUMP_TO_RW: u8 = 2;
-
-const DISABLE_JUMP: u8 = 5;
 
 /// What a line without its line feed says, or the first thing that is wrong with it: its length, its bytes, its first
 /// word, how many words there are behind it, and at last the first of these from the left that is not what it should
@@ -88,6 +79,8 @@ fn by_words<'a>(first: &[u8], rest: &'a [u8]) -> Result<Tool<'a>, Fault>
         flash_read(rest)
     } else if is_word(first, b"flashwrite") {
         flash_write(rest)
+    } else if is_word(first, b"flasherase") {
+        flash_erase(rest)
     } else if is_word(first, b"flashprotect") {
         flash_protect(rest)
     } else if is_word(first, b"echash") {
@@ -171,6 +164,18 @@ fn flash_write(words: &[u8]) -> Result<Tool<'_>, Fault>
     Ok(Tool::FlashWrite {
         at: number_to(2, at, u32::MAX)?,
         bytes: HexBytes::of_word(3, bytes, 4096)?,
+    })
+}
+
+fn flash_erase(words: &[u8]) -> Result<Tool<'_>, Fault>
+    ensures tool { by_kind result ≡ with_two (number_to 4294967295) (number_to 4294967295) Tool.FlashErase
+        (words_of words.now) }
+    ensures within { IfOk result IsInRange }
+{
+    let (at, size) = two_words(words)?;
+    Ok(Tool::FlashErase {
+        at: number_to(2, at, u32::MAX)?,
+        size: number_to(3, size, u32::MAX)?,
     })
 }
 
@@ -323,30 +328,33 @@ fn image_named(word: &[u8]) -> Option<ImageCopy>
 }
 
 fn reboot(words: &[u8]) -> Result<Tool<'_>, Fault>
-    ensures tool { by_kind result ≡ with_one reboot_to Tool.Reboot (words_of words.now) }
+    ensures tool { by_kind result ≡ with_one reboot_to (λ tool. tool) (words_of words.now) }
     ensures within { IfOk result IsInRange }
 {
     let word = one_word(words)?;
-    let cmd = reboot_named(word).ok_or(Fault::of_word(2, Wanted::Reboot))?;
-    Ok(Tool::Reboot { cmd })
+    let tool = reboot_named(word).ok_or(Fault::of_word(2, Wanted::Reboot))?;
+    Ok(tool)
 }
 
 // What a word asks REBOOT_EC for.
-fn reboot_named(word: &[u8]) -> Option<u8>
-    ensures cmd { result ≡ reboot_named word.now }
-    ensures within { IfSome result (λ cmd. IsTrue (is_reboot cmd)) }
+fn reboot_named(word: &[u8]) -> Option<Tool<'static>>
+    ensures tool { result ≡ reboot_named word.now }
+    ensures within { IfSome result IsInRange }
 {
-    if is_word(word, b"cancel") {
-        Some(CANCEL)
+    let cmd = if is_word(word, b"cancel") {
+        RebootAsk::CANCEL
     } else if is_word(word, b"RO") {
-        Some(JUMP_TO_RO)
+        RebootAsk::JUMP_RO
     } else if is_word(word, b"RW") {
-        Some(JUMP_TO_RW)
+        RebootAsk::JUMP_RW
     } else if is_word(word, b"disable-jump") {
-        Some(DISABLE_JUMP)
+        RebootAsk::DISABLE_JUMP
+    } else if is_word(word, b"cold") {
+        return Some(Tool::RebootCold);
     } else {
-        None
-    }
+        return None;
+    };
+    Some(Tool::Reboot { cmd })
 }
 
 fn test(words: &[u8]) -> Result<Tool<'_>, Fault>

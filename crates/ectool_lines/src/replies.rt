@@ -75,6 +75,7 @@ fn add_columns(out: &mut LineText, tool: &Tool<'_>, reply: &[u8])
     match tool {
         Tool::Hello
         | Tool::FlashWrite { .. }
+        | Tool::FlashErase { .. }
         | Tool::HashAbort
         | Tool::Reboot { .. }
         | Tool::Resend => {}
@@ -87,6 +88,7 @@ fn add_columns(out: &mut LineText, tool: &Tool<'_>, reply: &[u8])
         Tool::FlashProtect { .. } => add_protection(out, reply),
         Tool::Hash | Tool::HashStart { .. } | Tool::HashRange { .. } => add_hash(out, reply),
         Tool::Sysinfo => add_sysinfo(out, reply),
+        Tool::RebootCold => add_reset_flags(out, reply),
         Tool::FlashRead { .. } | Tool::Test { .. } => out.append_hex(reply),
     }
 }
@@ -290,4 +292,25 @@ fn sysinfo(out: &mut LineText, say: &SysinfoSay)
     out.append(b"\ncopy ");
     out.append(image_name(say.current));
     out.append_mask(b"\nflags ", say.flags);
+}
+
+// SYSINFO's reply behind a restart, which has none itself.
+fn add_reset_flags(out: &mut LineText, reply: &[u8])
+    requires sized { HasColumns tool.RebootCold reply.now }
+    requires fits { length out.old ≤ 11500 }
+    ensures text { out.new ≡ out.old ++ reply_text tool.RebootCold reply.now }
+    ensures long { length out.new ≤ length out.old + 200 }
+{
+    if reply.is_empty() {
+        return;
+    }
+    reset_flags(out, &SysinfoSay::from_bytes(reply));
+}
+
+fn reset_flags(out: &mut LineText, say: &SysinfoSay)
+    requires fits { length out.old ≤ 11500 }
+    ensures text { out.new ≡ out.old ++ (codes "reset flags " ++ hex_text say.now.reset_flags) }
+    ensures long { length out.new ≤ length out.old + 200 }
+{
+    out.append_mask(b"reset flags ", say.reset_flags);
 }

@@ -1,17 +1,18 @@
 // A line, carried out: its commands are sent one after the other.
-ghost use Rattle.std.specs.Prelude.{◌≡◌, ◌≤◌, ◌+◌, ◌↔◌, List, ℕ, length, drop, true, IsTrue};
+ghost use Rattle.std.specs.Prelude.{◌≡◌, ◌≤◌, ◌+◌, ◌↔◌, ◌&&◌, ◌==◌, List, ℕ, [], length, drop, true, IsTrue};
 ghost use Rattle.flash_dev.specs.Counts.{Rose};
 ghost use Rattle.ec_types.specs.Tables.{packet_limit};
 ghost use Rattle.ec_model.specs.Tries.{Answered};
 ghost use Rattle.command_laws.specs.Carried.{tells_any};
 ghost use Rattle.ectool_lines.specs.Tools.{IsInRange};
-ghost use Rattle.exchange_laws.specs.Served.{IsPlain};
+ghost use Rattle.exchange_laws.specs.Served.{IsPlain, is_cold_body};
 ghost use Rattle.host_transport.specs.Ends.{ending_of};
 ghost use Rattle.host_transport.specs.Once.{AsksOnce};
+ghost use Rattle.host_transport.specs.Restarting.{cold_view, RestartsOn};
 ghost use Rattle.host_transport.specs.Trying.{said_of, TriesOn};
 ghost use Rattle.ectool_lines.specs.Requests.{packet_of, request_of};
 ghost use Rattle.ectool_lines.specs.Sending.{asked_of};
-ghost use Rattle.ectool_lines.specs.Asking.{HearsOn, said_once, CarriesTool};
+ghost use Rattle.ectool_lines.specs.Asking.{HearsOn, said_once, said_restart, CarriesTool};
 ghost use Rattle.ectool_lines.specs.Running.{RunsTool};
 
 use crate::Tool;
@@ -20,10 +21,11 @@ use crate::replies::add_reply;
 use crate::text::{close, refuse};
 use bench_io::{LineText, PrintErr, Sink, print};
 use ec_packet::Packet;
-use ec_params::command::{RESEND_RESPONSE, TEST_PROTOCOL};
+use ec_params::RebootAsk;
+use ec_params::command::{REBOOT_EC, RESEND_RESPONSE, TEST_PROTOCOL};
 use ec_types::{limit_of, status};
 use ec_wire::Wire;
-use host_transport::{Once, Said, once, reply_body};
+use host_transport::{ColdEnd, Once, Said, cold, once, reply_body};
 
 /// The room that a line's commands have on a wire.
 const ROOM: usize = 200_000;
@@ -51,7 +53,8 @@ impl Buffers {
 }
 
 /// Carries out a line and prints its text: its commands go one after the other, up to the first that is not answered
-/// with success. Each is tried up to three times, but `test` and `resend`, which are sent once.
+/// with success. Each is tried up to three times, but `test` and `resend`, which are sent once, and the restart of
+/// `reboot_ec cold`.
 pub fn run<W: Wire, K: Sink>(
     w: &mut W,
     tool: &Tool<'_>,
@@ -102,6 +105,14 @@ fn is_sent_once(number: u16) -> bool
     number == TEST_PROTOCOL || number == RESEND_RESPONSE
 }
 
+// Whether a command is a COLD.
+fn is_cold(number: u16, body: &Packet) -> bool
+    ensures { result ≡ ((number == 0xD2) && is_cold_body body.now) }
+{
+    let body = body.as_slice();
+    number == REBOOT_EC && body.len() == 2 && body[0] == RebootAsk::COLD && body[1] == 0
+}
+
 // What is said of a request that was sent once.
 fn said_once(ended: Once) -> Said
     ensures { (body : List ℕ) → said_of result body ≡ said_once (ending_of ended body) }
@@ -113,17 +124,30 @@ fn said_once(ended: Once) -> Said
     }
 }
 
+// What is said of a restart.
+fn said_restart(ended: ColdEnd) -> Said
+    ensures { said_of result [] ≡ said_restart (cold_view ended) }
+{
+    match ended {
+        ColdEnd::Sent => Said::Ok,
+        ColdEnd::NoPower => Said::NoPower,
+        ColdEnd::Upset => Said::Upset,
+        ColdEnd::Short => Said::Short,
+    }
+}
+
 // Sends a command, whose body stands in its buffer.
 fn send<W: Wire>(w: &mut W, command: Command, buffers: &mut Buffers) -> Said
     requires room { tells_any command.number ≡ true → 1500 ≤ (W.view w.old).spare }
     requires short { 8 + length buffers.old.body ≤ packet_limit (W.view w.old).bus }
-    requires plain { IsPlain (packet_of (asked_of command buffers.old.body)) }
     ensures hears { HearsOn (asked_of command buffers.old.body) (said_of result (drop 8 buffers.new.reply)) (W.view w.old)
         (W.view w.new) }
     ensures text { buffers.new.text ≡ buffers.old.text }
 {
     if is_sent_once(command.number) {
         said_once(send_once(w, command, buffers))
+    } else if is_cold(command.number, &buffers.body) {
+        said_restart(restart(w, buffers))
     } else {
         send_tried(w, command, buffers)
     }
@@ -147,6 +171,17 @@ fn send_once<W: Wire>(w: &mut W, command: Command, buffers: &mut Buffers) -> Onc
         &mut buffers.packet,
         &mut buffers.reply,
     )
+}
+
+// Restarts the controller, with no room left to other commands. There is no reply.
+fn restart<W: Wire>(w: &mut W, buffers: &mut Buffers) -> ColdEnd
+    ensures restarts { RestartsOn 0 (cold_view result) (W.view w.old) (W.view w.new) }
+    ensures reply { buffers.new.reply ≡ [] }
+    ensures text { buffers.new.text ≡ buffers.old.text }
+{
+    let end = cold(w, 0, &mut buffers.packet, &mut buffers.reply);
+    buffers.reply.clear();
+    end
 }
 
 // Sends it up to three times, with no room left to other commands.

@@ -38,6 +38,15 @@ fn lines_are_read(rt: HostRuntime) {
             Ok(Tool::FlashRead { at: 7, size: 4096 })
         )
     );
+    assert!(rt;
+        matches!(
+            parse(b"flasherase 0x8000 0xffffffff"),
+            Ok(Tool::FlashErase {
+                at: 0x8000,
+                size: u32::MAX
+            })
+        )
+    );
     match parse(b"flashwrite 0x8000 f0F0f00f") {
         Ok(Tool::FlashWrite { at, bytes }) => {
             assert_eq!(rt; at, 0x8000);
@@ -152,8 +161,9 @@ fn the_hash_has_five_forms(rt: HostRuntime) {
 }
 
 #[test]
-fn jumps_have_four_words(rt: HostRuntime) {
+fn reboots_have_five_words(rt: HostRuntime) {
     assert!(rt; matches!(parse(b"version"), Ok(Tool::Version)));
+    assert!(rt; matches!(parse(b"reboot_ec cold"), Ok(Tool::RebootCold)));
     assert!(rt; matches!(parse(b"sysinfo"), Ok(Tool::Sysinfo)));
     for (line, want) in [
         (b"reboot_ec cancel".as_slice(), 0),
@@ -170,7 +180,7 @@ fn jumps_have_four_words(rt: HostRuntime) {
         (b"reboot_ec".as_slice(), Why::Count),
         (b"reboot_ec RO RW", Why::Count),
         (b"reboot_ec ro", Why::Word),
-        (b"reboot_ec cold", Why::Word),
+        (b"reboot_ec Cold", Why::Word),
         (b"version 1", Why::Count),
         (b"sysinfo 1", Why::Count),
     ] {
@@ -311,7 +321,7 @@ fn the_word_at_fault_is_told(rt: HostRuntime) {
         (b"echash abort ro 1", 2, Wanted::HashStartOrRange),
         (b"echash start all", 3, Wanted::Image),
         (b"echash start ro 0", 4, Wanted::Bytes { most: 64 }),
-        (b"reboot_ec cold", 2, Wanted::Reboot),
+        (b"reboot_ec warm", 2, Wanted::Reboot),
         (
             b"flashread 0x8000 5000",
             3,

@@ -38,14 +38,15 @@ pub(crate) fn refuse(out: &mut LineText, said: Said)
     out.append(b"\n");
 }
 
-// How many bytes were written.
-fn append_written(out: &mut LineText, count: usize)
-    requires { length out.old ≤ 12000 }
-    ensures text { out.new ≡ out.old ++ (codes "wrote " ++ decimal count ++ codes " bytes") }
+// What was done to how many bytes.
+fn append_done(out: &mut LineText, done: &[u8], count: usize)
+    requires few { length done.now ≤ 16 }
+    requires fits { length out.old ≤ 12000 }
+    ensures text { out.new ≡ out.old ++ (done.now ++ decimal count ++ codes " bytes") }
     ensures short { length out.new ≤ length out.old + 64 }
 {
     let mut digits = Buffer::new();
-    out.append(b"wrote ");
+    out.append(done);
     out.append(digits.format(count).as_bytes());
     out.append(b" bytes");
 }
@@ -58,7 +59,8 @@ fn append_closing(out: &mut LineText, tool: &Tool<'_>)
 {
     match tool {
         Tool::Hello => out.append(b"EC says hello!"),
-        Tool::FlashWrite { at: _, bytes } => append_written(out, bytes.len()),
+        Tool::FlashWrite { at: _, bytes } => append_done(out, b"wrote ", bytes.len()),
+        Tool::FlashErase { at: _, size } => append_done(out, b"erased ", *size as usize),
         Tool::HashAbort | Tool::Reboot { .. } | Tool::Resend => out.append(b"ok"),
         _ => {}
     }

@@ -39,6 +39,13 @@ pub enum Tool<'a> {
         /// At least one byte, and at most 4,096.
         bytes: HexBytes<'a>,
     },
+    /// `flasherase O N`
+    FlashErase {
+        /// The first byte to erase, from the flash's first byte.
+        at: u32,
+        /// How many bytes are to be erased.
+        size: u32,
+    },
     /// `flashprotect` in its five forms
     FlashProtect {
         /// Which bits are to change.
@@ -66,11 +73,13 @@ pub enum Tool<'a> {
     },
     /// `sysinfo`
     Sysinfo,
-    /// `reboot_ec C`
+    /// `reboot_ec C`, but for `cold`
     Reboot {
         /// 0 nothing, 1 a jump to the read-only image, 2 one to the writable image, 5 no jumps from now on.
         cmd: u8,
     },
+    /// `reboot_ec cold`
+    RebootCold,
     /// `test R N HEX`
     Test {
         /// The status that is wanted.

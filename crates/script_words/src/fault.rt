@@ -13,8 +13,8 @@ pub enum Wanted {
     #[error("printable ASCII")]
     Printable,
     #[error("one of hello, version, chipinfo, cmdversions, protoinfo, flashinfo, regioninfo, flashread, flashwrite, \
-             flashprotect, echash, sysinfo, reboot_ec, test, resend, pin, power, reset, tick, cut, at, out, in, i2cw, \
-             i2cr, spi and trace")]
+             flasherase, flashprotect, echash, sysinfo, reboot_ec, test, resend, pin, power, reset, tick, cut, at, \
+             out, in, i2cw, i2cr, spi and trace")]
     FirstWord,
     /// So many words behind the first one.
     #[error("{count}")]
@@ -48,7 +48,7 @@ pub enum Wanted {
     HashStartOrRange,
     #[error("ro or rw")]
     Image,
-    #[error("cancel, RO, RW or disable-jump")]
+    #[error("cancel, RO, RW, disable-jump or cold")]
     Reboot,
     /// A number, with both ends.
     #[error("a number from {least} to {most}")]
