@@ -1,12 +1,11 @@
 -- What contracts see of the shelf in memory.
-use Rattle.std.specs.Prelude.{◌≤◌, ◌<◌, ◌≡◌, ℕ, Bool, true, false, List, length, map, Result, Ok, Err, ⊤}
+use Rattle.std.specs.Prelude.{ℕ, List, map, Result, Ok, Err, ⊤}
 use Rattle.flash_dev.specs.Calls.{Calls}
 use Rattle.bench_shelf.specs.declared.memory_shelf.Stored.{Stored}
 use Rattle.bench_shelf.specs.declared.shelf.Loaded.{Loaded}
-use Rattle.bench_shelf.specs.declared.shelf.Loaded.TheVariants.{Whole, TooLong}
 use Rattle.bench_shelf.specs.declared.shelf.ShelfErr.{ShelfErr}
 use Rattle.bench_shelf.specs.declared.shelf.ShelfErr.TheVariants.{Failed, NoMemory}
-use Rattle.bench_shelf.specs.Shelves.{File}
+use Rattle.bench_shelf.specs.Shelves.{File, IsGiven}
 
 -- its files, in the order in which they were added
 pub record ShelfState : Type 0 where
@@ -17,15 +16,8 @@ pub record ShelfState : Type 0 where
 abbrev pub files_of : List Stored → List File
 files_of stored = map (λ one. record { name = one.name; bytes = one.bytes }) stored
 
--- whether a load failed, for another reason than memory
-abbrev pub is_failed : Result Loaded ShelfErr → Bool
-is_failed (Err Failed) = true
-is_failed (Err NoMemory) = false
-is_failed (Ok loaded) = false
-
 -- what is given of bytes that were found
 abbrev pub IsKept : Result Loaded ShelfErr → List ℕ → ℕ → Type 0
-IsKept (Ok (Whole blob)) bytes limit = (blob ≡ bytes) × (length bytes ≤ limit)
-IsKept (Ok TooLong) bytes limit = limit < length bytes
+IsKept (Ok loaded) bytes limit = IsGiven loaded bytes limit
 IsKept (Err Failed) bytes limit = ⊥
 IsKept (Err NoMemory) bytes limit = ⊤

@@ -1,5 +1,5 @@
 -- Shelves: names with their bytes.
-use Rattle.std.specs.Prelude.{◌≡◌, ◌≤◌, ◌<◌, ℕ, List, [], ◌∷◌, length, Option, Some, None, Result, Ok, Err, ⊤, if◌then◌else◌}
+use Rattle.std.specs.Prelude.{◌≡◌, ◌≤◌, ◌<◌, ℕ, Bool, true, false, List, [], ◌∷◌, length, Option, Some, None, Result, Ok, Err, ⊤, if◌then◌else◌}
 use Rattle.std.specs.Str.{bytes_eq}
 use Rattle.flash_dev.specs.Counts.{Rose}
 use Rattle.bench_shelf.specs.declared.shelf.Loaded.{Loaded}
@@ -38,6 +38,11 @@ pub record Finds (result : Result Loaded ShelfErr) (name : List ℕ) (limit : �
   pub found : IsFound result name limit old
   pub kept : new ≡ old
 
+-- what is given of bytes that are all there is: all of them, which are few enough; or that they are too many
+abbrev pub IsGiven : Loaded → List ℕ → ℕ → Type 0
+IsGiven (Whole blob) bytes limit = (blob ≡ bytes) × (length bytes ≤ limit)
+IsGiven TooLong bytes limit = limit < length bytes
+
 -- no more bytes come than were wanted
 abbrev pub IsWithin : Result Loaded ShelfErr → ℕ → Type 0
 IsWithin (Ok (Whole blob)) limit = length blob ≤ limit
@@ -49,3 +54,9 @@ abbrev pub FailsByFault : Result Loaded ShelfErr → ℕ → ℕ → Type 0
 FailsByFault (Err Failed) before now = Rose before now
 FailsByFault (Err NoMemory) before now = ⊤
 FailsByFault (Ok loaded) before now = ⊤
+
+-- whether a load failed, for another reason than memory
+abbrev pub is_failed : Result Loaded ShelfErr → Bool
+is_failed (Err Failed) = true
+is_failed (Err NoMemory) = false
+is_failed (Ok loaded) = false

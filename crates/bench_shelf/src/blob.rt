@@ -28,6 +28,13 @@ impl Blob {
         })
     }
 
+    /// These bytes, with no copy made.
+    pub fn of(bytes: Vec<u8>) -> Blob
+        ensures { result ≡ bytes.items }
+    {
+        Blob { bytes }
+    }
+
     /// Its bytes.
     pub fn as_slice(&self) -> &[u8]
         ensures { result.now ≡ self.now }

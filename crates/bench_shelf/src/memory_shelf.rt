@@ -2,8 +2,8 @@
 ghost use Rattle.std.specs.Prelude.{◌≡◌, ◌≤◌, ◌||◌, ◌++◌, ◌∷◌, [], Some, None, length, is_none, IfOk, IfErr, IfSome, OnOk, OnErr};
 ghost use Rattle.flash_dev.specs.Calls.{no_calls, is_next_failing, after_call};
 ghost use Rattle.flash_dev.specs.Told.{Changes};
-ghost use Rattle.bench_shelf.specs.Shelves.{bytes_of, Finds, IsWithin, FailsByFault};
-ghost use Rattle.bench_shelf.specs.Memory.{files_of, IsKept, is_failed};
+ghost use Rattle.bench_shelf.specs.Shelves.{bytes_of, Finds, IsWithin, FailsByFault, is_failed};
+ghost use Rattle.bench_shelf.specs.Memory.{files_of, IsKept};
 
 use crate::{Blob, Loaded, Shelf, ShelfErr};
 use flash_dev::FailingCalls;

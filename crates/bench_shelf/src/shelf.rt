@@ -2,9 +2,11 @@
 ghost use Rattle.std.specs.Prelude.{◌≡◌, ◌≤◌, ℕ, List, Option, length};
 ghost use Rattle.flash_dev.specs.Told.{Changes};
 ghost use Rattle.bench_shelf.specs.Shelves.{File, Finds, IsWithin, FailsByFault};
+ghost use Rattle.bench_shelf.specs.declared.shelf.ShelfErr.TheVariants as shelf_err;
 
 use crate::Blob;
-use std::alloc::Global;
+use std::alloc::{AllocError, Global};
+use std::io::{self, ErrorKind};
 
 /// What a shelf gave.
 #[derive(Drop)]
@@ -22,6 +24,23 @@ pub enum ShelfErr {
     Failed,
     /// Memory was refused.
     NoMemory,
+}
+
+impl From<io::Error> for ShelfErr {
+    fn from(error: io::Error) -> ShelfErr {
+        match error.kind() {
+            ErrorKind::OutOfMemory => ShelfErr::NoMemory,
+            _ => ShelfErr::Failed,
+        }
+    }
+}
+
+impl From<AllocError> for ShelfErr {
+    ghost from_gives = { λ refused cause. cause ≡ shelf_err.NoMemory };
+
+    fn from(_refused: AllocError) -> ShelfErr {
+        ShelfErr::NoMemory
+    }
 }
 
 pub trait Shelf {
