@@ -1,0 +1,5 @@
+pub mod Parts
+pub mod Replies
+pub mod Requests
+pub mod Steps
+pub mod Syncing
