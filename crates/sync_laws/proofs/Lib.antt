@@ -1,0 +1,3 @@
+pub mod Dark
+pub mod DarkSteps
+pub mod DarkRounds
