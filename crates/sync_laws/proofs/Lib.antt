@@ -1,3 +1,4 @@
 pub mod Dark
 pub mod DarkSteps
 pub mod DarkRounds
+pub mod Calmly
