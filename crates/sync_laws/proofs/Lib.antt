@@ -2,3 +2,4 @@ pub mod Dark
 pub mod DarkSteps
 pub mod DarkRounds
 pub mod Calmly
+pub mod Rows
