@@ -3,3 +3,5 @@ pub mod DarkSteps
 pub mod DarkRounds
 pub mod Calmly
 pub mod Rows
+pub mod Proper
+pub mod Surveying
