@@ -5,3 +5,4 @@ pub mod Calmly
 pub mod Rows
 pub mod Proper
 pub mod Surveying
+pub mod Awaiting

@@ -1,5 +1,5 @@
 -- The sync's requests are proper: they fit any bus, and a success has as many bytes as are wanted.
-use Rattle.std.proofs.Common.{◌≡◌, refl, sym, ap, ◌∙◌, subst, ℕ, ◌+◌, ◌-◌, ◌<◌, ◌≤◌, ◌==◌, ◌||◌, Bool, true, false, not, nat_lt, if◌then◌else◌, List, [], ◌++◌, length, take, drop, replicate, Option, Some, None, Result, Ok, Err, arith}
+use Rattle.std.proofs.Common.{◌≡◌, refl, sym, ap, ◌∙◌, subst, ℕ, ◌+◌, ◌-◌, ◌<◌, ◌≤◌, ◌==◌, ◌||◌, Bool, true, false, not, nat_lt, if◌then◌else◌, List, [], ◌∷◌, ◌++◌, length, take, drop, replicate, Option, Some, None, Result, Ok, Err, arith}
 use Rattle.std.specs.Prelude.{is_some, slice_index, take_while}
 use Rattle.std.proofs.lemmas.List.{length-append, length-replicate, length-take}
 use Rattle.ec_types.specs.LittleEndian.{u32_at, u32_bytes}
@@ -15,14 +15,18 @@ use Rattle.ec_model.specs.Handle.{handled}
 use Rattle.ec_model.specs.InfoRows.{zero_padded, is_shown, version_text, raw_version, copy_number, proto_info_row, flash_info_row, region_info_row, version_row}
 use Rattle.ec_model.specs.Packet.{RequestView, request_packet}
 use Rattle.ec_model.specs.ProtectRow.{flash_protect_row}
+use Rattle.ec_model.specs.declared.live.HashView.{HashView}
+use Rattle.ec_model.specs.declared.live.HashView.TheVariants.{Idle, Busy, Done}
+use Rattle.ec_model.specs.HashRow.{hash_bytes, vboot_hash_row}
 use Rattle.ec_model.specs.Rounds.{protocol_request}
-use Rattle.ec_model.specs.Table.{Core, Valid, table_of}
+use Rattle.ec_model.specs.Table.{Core, Valid, table_of, IsHashable}
 use Rattle.exchange_laws.specs.Served.{IsPlain, is_cold}
 use Rattle.exchange_laws.proofs.Spelled.{plain-spelled}
 use Rattle.command_laws.specs.Commands.{Fits, IsProper}
 use Rattle.command_laws.specs.Carried.{IsWanted, tells_any}
-use Rattle.sync_rules.specs.Requests.{version_request, flash_info_request, protect_request, region_request}
-use Rattle.sync_laws.proofs.Rows.{unless_pending, limits-row, size-row, region-row, copy-row, protect-row}
+use Rattle.command_laws.proofs.Answering.{IsSound, sound-valid}
+use Rattle.sync_rules.specs.Requests.{version_request, flash_info_request, protect_request, region_request, hash_request}
+use Rattle.sync_laws.proofs.Rows.{unless_pending, hash_body, limits-row, size-row, region-row, copy-row, protect-row, hash-row}
 
 -- every bus carries 128 bytes
 large : (bus : BusKind) → 128 ≤ packet_limit bus
@@ -114,4 +118,34 @@ protect-proper bus bits = record {
   body = omega arith;
   steady = refl;
   wanted = wanted-of bus (protect_request bits) 12 (λ core limit. flash_protect_row core (flash_protect_ask bits bits)) (λ core limit. protect-row core limit bits) (λ core limit. told-length 12 _ _ refl);
+}
+
+-- VBOOT_HASH START
+pub start-proper : (bus : BusKind) → IsProper bus (hash_request 2) 76
+start-proper bus = record {
+  fits = fits-any bus 0x2A 0 (hash_body 2) (omega arith) (omega arith) refl;
+  number = omega arith;
+  body = omega arith;
+  steady = refl;
+  wanted = wanted-of bus (hash_request 2) 76 (λ core limit. vboot_hash_row core (hash_body 2)) (λ core limit. hash-row core limit 2) (λ core limit. told-length 76 _ _ refl);
+}
+
+-- what shows a hash
+pub shown-length : (size : ℕ) (hash : HashView) (nonce : List ℕ) → IsHashable size hash nonce → length (hash_bytes hash) ≡ 76
+shown-length size Idle nonce hashable = refl
+shown-length size (Busy at count left) nonce hashable = refl
+shown-length size (Done at count digest) nonce hashable =
+    let body = digest ++ replicate 32 0 in
+    omega (arith, hashable.2, length-append digest (replicate 32 0), length-append ((1 ∷ 0 ∷ 32 ∷ 0 ∷ []) ++ u32_bytes at ++ u32_bytes count) body)
+
+-- VBOOT_HASH GET
+pub look-proper : (bus : BusKind) → IsProper bus (hash_request 0) 76
+look-proper bus = record {
+  fits = fits-any bus 0x2A 0 (hash_body 0) (omega arith) (omega arith) refl;
+  number = omega arith;
+  body = omega arith;
+  steady = refl;
+  wanted = λ core after state body valid kind comes.
+      let sound : IsSound bus core = record { state = state; valid = valid; kind_is = kind } in
+      pending-by 76 core (vboot_hash_row core (hash_body 0)) (is_some core.live.erase) (told-length 76 core (hash_bytes core.live.hash) (shown-length (length core.flash) core.live.hash core.nonce (sound-valid bus core sound).hash)) after body (sym (hash-row core (packet_limit bus) 0) ∙ comes);
 }
