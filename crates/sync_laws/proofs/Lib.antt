@@ -6,3 +6,4 @@ pub mod Rows
 pub mod Proper
 pub mod Surveying
 pub mod Awaiting
+pub mod Looked

@@ -40,7 +40,10 @@ free-by : (core : Core) (outcome : Outcome) (erase : Option EraseJob) → erase 
 free-by core outcome None is = refl
 free-by core outcome (Some job) is = absurd (cc)
 
-succeeds : (limit : ℕ) (request : RequestView) (core after : Core) (body : List ℕ) → core.live.erase ≡ None → handled core limit (packet_of request) ≡ unless_pending core (Answered after 0 body) → carried limit request core ≡ Answered after 0 body
+pub is-free : (core : Core) (outcome : Outcome) → core.live.erase ≡ None → unless_pending core outcome ≡ outcome
+is-free core outcome none = free-by core outcome core.live.erase none
+
+pub succeeds : (limit : ℕ) (request : RequestView) (core after : Core) (body : List ℕ) → core.live.erase ≡ None → handled core limit (packet_of request) ≡ unless_pending core (Answered after 0 body) → carried limit request core ≡ Answered after 0 body
 succeeds limit request core after body none is =
     ap (λ (outcome : Outcome). led_on 8 (handled_idle limit resend_request) (led_on 16 (handled_idle limit request) outcome)) (is ∙ free-by core (Answered after 0 body) core.live.erase none)
 
