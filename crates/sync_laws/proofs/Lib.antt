@@ -7,3 +7,4 @@ pub mod Proper
 pub mod Surveying
 pub mod Awaiting
 pub mod Looked
+pub mod Hashed

@@ -104,7 +104,7 @@ start-reaches setting core none =
     (success-reaches setting (hash_request 2) 76 confirmed core (hashing left core) body (Ok tt) (start-proper setting.bus) none row refl)
 
 -- VBOOT_HASH GET, of a hash that is not finished
-busy-reaches : (setting : Setting) (aim : Aim) (core : Core) (left : ℕ) → core.live.erase ≡ None → Reaches setting (AsksHash setting aim) (hashing left core) (Ok None) (hashing left core) 174
+pub busy-reaches : (setting : Setting) (aim : Aim) (core : Core) (left : ℕ) → core.live.erase ≡ None → Reaches setting (AsksHash setting aim) (hashing left core) (Ok None) (hashing left core) 174
 busy-reaches setting aim core left none =
     let now = hashing left core in
     let body = hash_bytes (Busy (rw_range (length core.flash)).at (rw_range (length core.flash)).size left) in
@@ -118,7 +118,7 @@ abbrev pub is_aimed : Aim → Core → Bool
 is_aimed aim core = bytes_eq (rw_digest core) aim.digest
 
 -- and of one that is
-done-reaches : (setting : Setting) (aim : Aim) (core : Core) → core.live.erase ≡ None → aim.geometry ≡ length core.flash → length core.flash < 2 ^ 32 → Reaches setting (AsksHash setting aim) (hashed core) (Ok (Some (is_aimed aim core))) (hashed core) 174
+pub done-reaches : (setting : Setting) (aim : Aim) (core : Core) → core.live.erase ≡ None → aim.geometry ≡ length core.flash → length core.flash < 2 ^ 32 → Reaches setting (AsksHash setting aim) (hashed core) (Ok (Some (is_aimed aim core))) (hashed core) 174
 done-reaches setting aim core none geometry small =
     let now = hashed core in
     let size = length core.flash in
