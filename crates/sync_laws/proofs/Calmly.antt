@@ -31,16 +31,16 @@ use Rattle.command_laws.proofs.Waiting.{at-open, at-rest, waits-calm}
 use Rattle.sync_rules.specs.declared.ending.Stop.{Stop}
 use Rattle.sync_rules.specs.declared.ending.Stop.TheVariants.{Lost}
 use Rattle.sync_rules.specs.Parts.{Gives, Leads, Then, When, WhereRoom, Pauses, Waits, Commands, Colds, cold_told}
-use Rattle.sync_laws.specs.Calm.{IsReached, Reaches}
+use Rattle.sync_laws.specs.Calm.{IsReached, ReachesFrom, Reaches}
 
 -- the room behind a part
 behind-room : (setting : Setting) (view : HostView) (first : List Entry) (most more : ℕ) → IsQuiet first → length (calls_of first) ≤ most → HasRoom setting view (most + more) → HasRoom setting (view_after first view) more
 behind-room setting view first most more quiet takes has = record { on = quiet-on first view.on quiet ∙ has.on; enough = omega (arith, has.enough, takes) }
 
 -- two parts
-pub then-reaches : {A B : Type 0} → (setting : Setting) (first : HostView → List Entry → Result A Stop → Type 0) (next : A → HostView → List Entry → Result B Stop → Type 0) (core middle after : Core) (value : A) (given : Result B Stop) (most more : ℕ) →
-    Reaches setting first core (Ok value) middle most → Reaches setting (next value) middle given after more → Reaches setting (Then first next) core given after (most + more)
-then-reaches {A} {B} setting first next core middle after value given most more one two view table entries told last at has quiet run both =
+pub then-from : {A B : Type 0} → (from : Table → Type 0) (setting : Setting) (first : HostView → List Entry → Result A Stop → Type 0) (next : A → HostView → List Entry → Result B Stop → Type 0) (middle after : Core) (value : A) (given : Result B Stop) (most more : ℕ) →
+    ReachesFrom from setting first (Ok value) middle most → Reaches setting (next value) middle given after more → ReachesFrom from setting (Then first next) given after (most + more)
+then-from {A} {B} from setting first next middle after value given most more one two view table entries told last at has quiet run both =
     let split = run-split table last both.opening both.rest (subst (λ (xs : List Entry). IsRun table xs last) both.parts run) in
     let quiets = quiet-both both.opening both.rest (subst (λ (xs : List Entry). IsQuiet xs) both.parts quiet) in
     let begins = one view table both.opening both.reached split.0 at (record { on = has.on; enough = omega (arith, has.enough) }) quiets.0 split.1 both.began in
@@ -52,6 +52,10 @@ then-reaches {A} {B} setting first next core middle after value given most more 
       at = goes.at;
       takes = subst (λ (xs : List Entry). length (calls_of xs) ≤ most + more) (sym both.parts) (omega (arith, calls-both both.opening both.rest, begins.takes, goes.takes));
     }
+
+pub then-reaches : {A B : Type 0} → (setting : Setting) (first : HostView → List Entry → Result A Stop → Type 0) (next : A → HostView → List Entry → Result B Stop → Type 0) (core middle after : Core) (value : A) (given : Result B Stop) (most more : ℕ) →
+    Reaches setting first core (Ok value) middle most → Reaches setting (next value) middle given after more → Reaches setting (Then first next) core given after (most + more)
+then-reaches setting first next core middle after value given most more one two = then-from (IsAt setting.bus core) setting first next middle after value given most more one two
 
 -- nothing is done
 pub gives-reaches : {A : Type 0} → (setting : Setting) (given : Result A Stop) (core : Core) → Reaches setting (Gives given) core given core 0
@@ -74,9 +78,9 @@ room-by : {A : Type 0} → (setting : Setting) (part : HostView → List Entry �
 room-by setting part view entries told true is does = absurd (cc)
 room-by setting part view entries told false is does = does
 
-pub room-reaches : {A : Type 0} → (setting : Setting) (part : HostView → List Entry → Result A Stop → Type 0) (core : Core) (given : Result A Stop) (after : Core) (room : ℕ) →
-    Reaches setting part core given after room → Reaches setting (WhereRoom setting part) core given after room
-room-reaches setting part core given after room reaches view table entries told last at has quiet run does =
+pub room-reaches : {A : Type 0} → (from : Table → Type 0) (setting : Setting) (part : HostView → List Entry → Result A Stop → Type 0) (given : Result A Stop) (after : Core) (room : ℕ) →
+    ReachesFrom from setting part given after room → ReachesFrom from setting (WhereRoom setting part) given after room
+room-reaches from setting part given after room reaches view table entries told last at has quiet run does =
     let large : nat_lt view.spare (setting.floor + 1500) ≡ false = grind (arith, leb_tells, has.enough) in
     reaches view table entries told last at has quiet run (room-by setting part view entries told (nat_lt view.spare (setting.floor + 1500)) large does)
 
@@ -125,7 +129,7 @@ ticks-at (suc count) kind core table last at run =
 
 pub waits-reach : (count : ℕ) (setting : Setting) (core : Core) → Reaches setting (Waits count setting) core (Ok tt) (after_ticks count core) count
 waits-reach count setting core =
-    room-reaches setting (Pauses count) core (Ok tt) (after_ticks count core) count
+    room-reaches (IsAt setting.bus core) setting (Pauses count) (Ok tt) (after_ticks count core) count
     (λ view table entries told last at has quiet run pauses.
     let entries_are = determined entries quiet.steps quiet.calm ∙ ap (λ (calls : List HostCall). map quiet_entry calls) pauses.waited in
     record {

@@ -8,3 +8,4 @@ pub mod Surveying
 pub mod Awaiting
 pub mod Looked
 pub mod Hashed
+pub mod Quieting
