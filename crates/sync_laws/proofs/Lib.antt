@@ -9,3 +9,4 @@ pub mod Awaiting
 pub mod Looked
 pub mod Hashed
 pub mod Quieting
+pub mod Sealing

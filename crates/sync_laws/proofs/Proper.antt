@@ -9,7 +9,7 @@ use Rattle.ec_types.specs.declared.bus.BusKind.TheVariants.{Lpc, I2c, Spi}
 use Rattle.ec_types.specs.declared.image.ImageCopy.TheVariants.{Ro, Rw}
 use Rattle.ec_model.specs.Answer.{Outcome, Answered, Restarts, refused}
 use Rattle.ec_model.specs.Asks.{packet_of}
-use Rattle.ec_model.specs.Bodies.{version_say, flash_protect_ask, region_info_ask}
+use Rattle.ec_model.specs.Bodies.{version_say, flash_protect_ask, region_info_ask, reboot_ask}
 use Rattle.ec_model.specs.Bus.{BusState, kind_of}
 use Rattle.ec_model.specs.Handle.{handled}
 use Rattle.ec_model.specs.InfoRows.{zero_padded, is_shown, version_text, raw_version, copy_number, proto_info_row, flash_info_row, region_info_row, version_row}
@@ -18,6 +18,7 @@ use Rattle.ec_model.specs.ProtectRow.{flash_protect_row}
 use Rattle.ec_model.specs.declared.live.HashView.{HashView}
 use Rattle.ec_model.specs.declared.live.HashView.TheVariants.{Idle, Busy, Done}
 use Rattle.ec_model.specs.HashRow.{hash_bytes, vboot_hash_row}
+use Rattle.ec_model.specs.RebootRow.{reboot_row}
 use Rattle.ec_model.specs.Rounds.{protocol_request}
 use Rattle.ec_model.specs.Table.{Core, Valid, table_of, IsHashable}
 use Rattle.exchange_laws.specs.Served.{IsPlain, is_cold}
@@ -25,8 +26,8 @@ use Rattle.exchange_laws.proofs.Spelled.{plain-spelled}
 use Rattle.command_laws.specs.Commands.{Fits, IsProper}
 use Rattle.command_laws.specs.Carried.{IsWanted, tells_any}
 use Rattle.command_laws.proofs.Answering.{IsSound, sound-valid}
-use Rattle.sync_rules.specs.Requests.{version_request, flash_info_request, protect_request, region_request, hash_request}
-use Rattle.sync_laws.proofs.Rows.{unless_pending, hash_body, limits-row, size-row, region-row, copy-row, protect-row, hash-row}
+use Rattle.sync_rules.specs.Requests.{version_request, flash_info_request, protect_request, region_request, hash_request, reboot_request}
+use Rattle.sync_laws.proofs.Rows.{unless_pending, hash_body, limits-row, size-row, region-row, copy-row, protect-row, hash-row, reboot-row}
 
 -- every bus carries 128 bytes
 large : (bus : BusKind) → 128 ≤ packet_limit bus
@@ -148,4 +149,14 @@ look-proper bus = record {
   wanted = λ core after state body valid kind comes.
       let sound : IsSound bus core = record { state = state; valid = valid; kind_is = kind } in
       pending-by 76 core (vboot_hash_row core (hash_body 0)) (is_some core.live.erase) (told-length 76 core (hash_bytes core.live.hash) (shown-length (length core.flash) core.live.hash core.nonce (sound-valid bus core sound).hash)) after body (sym (hash-row core (packet_limit bus) 0) ∙ comes);
+}
+
+-- REBOOT_EC DISABLE_JUMP
+pub disable-proper : (bus : BusKind) → IsProper bus (reboot_request 5) 0
+disable-proper bus = record {
+  fits = fits-any bus 0xD2 0 (reboot_ask 5 0) (omega arith) (omega arith) refl;
+  number = omega arith;
+  body = omega arith;
+  steady = refl;
+  wanted = wanted-of bus (reboot_request 5) 0 (λ core limit. reboot_row core (reboot_ask 5 0)) (λ core limit. reboot-row core limit 5) (λ core limit. told-length 0 _ [] refl);
 }
