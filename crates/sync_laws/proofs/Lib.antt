@@ -10,3 +10,4 @@ pub mod Looked
 pub mod Hashed
 pub mod Quieting
 pub mod Sealing
+pub mod Keeping
