@@ -1,13 +1,11 @@
 -- The hash of RW, taken by ticks that nothing disturbs, and awaited by looks.
-use Rattle.std.proofs.Common.{◌≡◌, refl, sym, ap, ◌∙◌, subst, ℕ, zero, suc, ◌+◌, ◌-◌, ◌*◌, ◌/◌, ◌<◌, ◌≤◌, ◌^◌, ◌&&◌, ◌==◌, Bool, true, false, nat_le, if◌then◌else◌, List, [], ◌++◌, length, take, drop, replicate, Option, Some, None, Result, Ok, Err, arith}
-use Rattle.std.specs.Str.{bytes_eq}
+use Rattle.std.proofs.Common.{◌≡◌, refl, ap, ◌∙◌, ℕ, zero, suc, ◌-◌, ◌<◌, ◌≤◌, Bool, true, false, nat_le, if◌then◌else◌, List, [], ◌++◌, length, Option, None, arith}
 use Rattle.std.proofs.lemmas.Bool.Decides.{leb_tells}
 use Rattle.sha2.specs.Sha256.{sha256}
 use Rattle.ec_model.specs.declared.live.EraseJob.{EraseJob}
-use Rattle.ec_model.specs.declared.live.HashView.{HashView}
 use Rattle.ec_model.specs.declared.live.HashView.TheVariants.{Busy, Done}
 use Rattle.ec_model.specs.Hash.{with_hash, hash_ticked}
-use Rattle.ec_model.specs.Ranges.{Range, rw_range, part}
+use Rattle.ec_model.specs.Ranges.{rw_range, part}
 use Rattle.ec_model.specs.Table.{Core}
 use Rattle.command_laws.specs.Idle.{ticked_by, ticked, after_ticks}
 

@@ -1,12 +1,12 @@
 -- Parts of a sync that nothing disturbs, one behind the other.
-use Rattle.std.proofs.Common.{◌≡◌, ◌≢◌, refl, sym, ap, ◌∙◌, subst, ℕ, zero, suc, ◌+◌, ◌-◌, ◌≤◌, ◌<◌, Bool, true, false, nat_lt, List, [], ◌∷◌, ◌++◌, length, map, replicate, Result, Ok, Err, arith}
+use Rattle.std.proofs.Common.{◌≡◌, refl, sym, ap, ◌∙◌, subst, ℕ, zero, suc, ◌+◌, ◌≤◌, Bool, true, false, nat_lt, List, [], ◌∷◌, length, map, replicate, Result, Ok, Err, arith}
 use Rattle.std.proofs.lemmas.Bool.Decides.{leb_tells}
 use Rattle.std.proofs.lemmas.List.{length-replicate}
 use Rattle.ec_types.specs.Tables.{packet_limit}
 use Rattle.ec_types.specs.declared.bus.BusKind.{BusKind}
 use Rattle.ec_types.specs.declared.bus.BusKind.TheVariants.{Lpc, I2c, Spi}
 use Rattle.ec_model.specs.declared.event.Entry.{Entry}
-use Rattle.ec_model.specs.Answer.{Outcome, Answered}
+use Rattle.ec_model.specs.Answer.{Answered}
 use Rattle.ec_model.specs.Asks.{Setting}
 use Rattle.ec_model.specs.HostCalls.{HostView, HostCall, Waited, calls_of, view_after}
 use Rattle.ec_model.specs.Packet.{RequestView}
@@ -31,10 +31,10 @@ use Rattle.command_laws.proofs.Waiting.{at-open, at-rest, waits-calm}
 use Rattle.sync_rules.specs.declared.ending.Stop.{Stop}
 use Rattle.sync_rules.specs.declared.ending.Stop.TheVariants.{Lost}
 use Rattle.sync_rules.specs.Parts.{Gives, Leads, Then, When, WhereRoom, Pauses, Waits, Commands, Colds, cold_told}
-use Rattle.sync_laws.specs.Calm.{IsReached, ReachesFrom, Reaches}
+use Rattle.sync_laws.specs.Calm.{ReachesFrom, Reaches}
 
 -- the room behind a part
-behind-room : (setting : Setting) (view : HostView) (first : List Entry) (most more : ℕ) → IsQuiet first → length (calls_of first) ≤ most → HasRoom setting view (most + more) → HasRoom setting (view_after first view) more
+pub behind-room : (setting : Setting) (view : HostView) (first : List Entry) (most more : ℕ) → IsQuiet first → length (calls_of first) ≤ most → HasRoom setting view (most + more) → HasRoom setting (view_after first view) more
 behind-room setting view first most more quiet takes has = record { on = quiet-on first view.on quiet ∙ has.on; enough = omega (arith, has.enough, takes) }
 
 -- two parts

@@ -1,5 +1,5 @@
 -- A part that stops for want of power leaves the controller off.
-use Rattle.std.proofs.Common.{◌≡◌, refl, sym, ap, ◌∙◌, ℕ, Bool, true, false, nat_lt, ◌+◌, ◌==◌, if◌then◌else◌, List, [], ◌++◌, append-nil, Result, Ok, Err}
+use Rattle.std.proofs.Common.{◌≡◌, refl, sym, ap, ◌∙◌, ℕ, Bool, true, false, nat_lt, ◌+◌, ◌==◌, if◌then◌else◌, List, ◌++◌, append-nil, Result, Ok, Err}
 use Rattle.ec_model.specs.declared.event.Entry.{Entry}
 use Rattle.ec_model.specs.Asks.{Setting}
 use Rattle.ec_model.specs.HostCalls.{HostView, on_after, view_after}

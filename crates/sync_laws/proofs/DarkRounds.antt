@@ -1,5 +1,5 @@
 -- A sync that ends without power leaves the controller off, and none ends for want of memory.
-use Rattle.std.proofs.Common.{◌≡◌, refl, sym, ap, ◌∙◌, ℕ, zero, suc, Bool, false, ◌||◌, List, [], ◌++◌, append-nil, Option, Some, None, Result, Ok, Err}
+use Rattle.std.proofs.Common.{◌≡◌, refl, sym, ap, ◌∙◌, ℕ, zero, suc, Bool, false, ◌||◌, List, ◌++◌, append-nil, Option, Some, None, Result, Ok, Err}
 use Rattle.ec_types.specs.declared.bus.BusKind.{BusKind}
 use Rattle.ec_model.specs.declared.event.Entry.{Entry}
 use Rattle.ec_model.specs.Asks.{Setting}
@@ -9,7 +9,7 @@ use Rattle.sync_rules.specs.declared.ending.Plan.{Plan}
 use Rattle.sync_rules.specs.declared.ending.Stop.{Stop}
 use Rattle.sync_rules.specs.declared.ending.Stop.TheVariants.{Lost, NoPower, Misfit, Locked}
 use Rattle.sync_rules.specs.declared.ending.SyncEnd.{SyncEnd}
-use Rattle.sync_rules.specs.declared.ending.SyncEnd.TheVariants.{Done, BadImage, Locked as EndLocked, NoPower as EndNoPower, Disturbed, NoMemory}
+use Rattle.sync_rules.specs.declared.ending.SyncEnd.TheVariants.{NoPower as EndNoPower, NoMemory}
 use Rattle.sync_rules.specs.Parts.{Leads}
 use Rattle.sync_rules.specs.Steps.{CarriesOut, Plans}
 use Rattle.sync_rules.specs.Syncing.{SyncRound, end_told, RoundLeads, round_setting, SyncsUpTo, Syncs}

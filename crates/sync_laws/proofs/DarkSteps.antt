@@ -1,5 +1,5 @@
 -- The steps of a round leave the controller off where they stop for want of power.
-use Rattle.std.proofs.Common.{◌≡◌, refl, sym, ap, ◌∙◌, ℕ, zero, suc, ◌+◌, ◌-◌, ◌*◌, ◌==◌, ◌||◌, ◌&&◌, not, Bool, true, false, if◌then◌else◌, List, take, drop, length, slice_index, Option, Some, None, Result, Ok, Err}
+use Rattle.std.proofs.Common.{◌≡◌, refl, ℕ, zero, suc, ◌+◌, ◌*◌, ◌==◌, ◌||◌, ◌&&◌, not, Bool, true, false, if◌then◌else◌, List, take, drop, length, slice_index, Option, Some, None, Result, Ok, Err}
 use Rattle.std.specs.Str.{bytes_eq}
 use Rattle.ec_types.specs.Tables.{packet_limit}
 use Rattle.ec_types.specs.LittleEndian.{has_bit}
@@ -16,9 +16,9 @@ use Rattle.sync_rules.specs.declared.ending.Jump.{Jump}
 use Rattle.sync_rules.specs.declared.ending.Jump.TheVariants.{Jumped, Denied, Failed}
 use Rattle.sync_rules.specs.declared.ending.Plan.{Plan}
 use Rattle.sync_rules.specs.declared.ending.Stop.{Stop}
-use Rattle.sync_rules.specs.declared.ending.Stop.TheVariants.{Lost, NoPower, Misfit, Locked}
+use Rattle.sync_rules.specs.declared.ending.Stop.TheVariants.{Lost, NoPower, Locked}
 use Rattle.sync_rules.specs.Parts.{Gives, Then, When, Rests, Waits, Colds}
-use Rattle.sync_rules.specs.Replies.{confirmed, given_if, limits_told, size_told, region_told, runs_rw_told, flags_told, is_of_rw, hash_told, jump_by, jump_told, last_jump_told, unlocked_told, aim_by, aim_of, is_locked}
+use Rattle.sync_rules.specs.Replies.{confirmed, given_if, limits_told, size_told, region_told, runs_rw_told, flags_told, is_of_rw, hash_told, jump_told, last_jump_told, unlocked_told, aim_by, aim_of, is_locked}
 use Rattle.sync_rules.specs.Requests.{version_request, flash_info_request, write_request, erase_request, protect_request, region_request, hash_request, reboot_request}
 use Rattle.sync_rules.specs.Steps.{Confirms, AsksLimits, AsksSize, AsksRegion, Surveys, AsksCopy, Protects, StartsHash, AsksHash, Looks, LooksOn, LooksUpTo, Hashes, Checks, Jumps, JumpsAgain, JumpLeads, Starts, Unlocks, Frees, plan_of, PlansToWrite, PlansToKeep, Plans, piece, piece_length, pieces, is_blank, WritesPiece, WritesFrom, Installs, Rewrites, Seals, Prepares, CarriesOut}
 use Rattle.sync_laws.proofs.Dark.{LeavesDark, gives-dark, then-dark, when-dark, rests-dark, waits-dark, commands-dark, success-dark, colds-dark}

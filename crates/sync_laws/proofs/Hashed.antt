@@ -1,15 +1,12 @@
 -- The hash of RW that nothing disturbs: it is started, awaited, and told.
-use Rattle.std.proofs.Common.{◌≡◌, refl, sym, ap, ◌∙◌, subst, ℕ, zero, suc, ◌+◌, ◌-◌, ◌*◌, ◌/◌, ◌<◌, ◌≤◌, ◌^◌, Bool, true, false, nat_le, List, length, Option, Some, None, Result, Ok, Err, arith}
+use Rattle.std.proofs.Common.{◌≡◌, refl, sym, subst, ℕ, zero, suc, ◌+◌, ◌-◌, ◌*◌, ◌/◌, ◌<◌, ◌≤◌, ◌^◌, Bool, true, false, nat_le, length, Some, None, Ok, arith}
 use Rattle.std.proofs.lemmas.Bool.Decides.{leb_tells}
-use Rattle.ec_model.specs.declared.event.Entry.{Entry}
 use Rattle.ec_model.specs.Asks.{Setting}
-use Rattle.ec_model.specs.HostCalls.{HostView}
 use Rattle.ec_model.specs.Ranges.{rw_range}
 use Rattle.ec_model.specs.Table.{Core, ticks_of}
 use Rattle.command_laws.specs.Idle.{after_ticks}
 use Rattle.sync_rules.specs.declared.ending.Aim.{Aim}
-use Rattle.sync_rules.specs.declared.ending.Stop.{Stop}
-use Rattle.sync_rules.specs.Parts.{Gives, Then, Waits}
+use Rattle.sync_rules.specs.Parts.{Gives, Waits}
 use Rattle.sync_rules.specs.Replies.{given_if}
 use Rattle.sync_rules.specs.Steps.{StartsHash, AsksHash, Looks, LooksOn, LooksUpTo, Hashes, Checks}
 use Rattle.sync_laws.specs.Calm.{Reaches}

@@ -10,4 +10,5 @@ pub mod Looked
 pub mod Hashed
 pub mod Quieting
 pub mod Sealing
-pub mod Keeping
+pub mod KeptSteps
+pub mod KeptRounds

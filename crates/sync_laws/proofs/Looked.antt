@@ -1,17 +1,15 @@
 -- The looks at a hash that nothing disturbs: the hash of RW is told once it is finished.
-use Rattle.std.proofs.Common.{◌≡◌, refl, sym, ap, ◌∙◌, subst, ℕ, zero, suc, ◌+◌, ◌-◌, ◌*◌, ◌/◌, ◌<◌, ◌≤◌, ◌^◌, ◌⊎◌, inl, inr, ◌&&◌, ◌==◌, Bool, true, false, leb, if◌then◌else◌, List, [], ◌∷◌, ◌++◌, length, take, drop, replicate, Option, Some, None, Result, Ok, Err, arith}
+use Rattle.std.proofs.Common.{◌≡◌, refl, ap, ◌∙◌, ℕ, ◌+◌, ◌*◌, ◌/◌, ◌<◌, ◌≤◌, ◌^◌, ◌&&◌, Bool, true, List, [], ◌∷◌, ◌++◌, length, take, drop, replicate, Some, None, Result, Ok, arith}
 use Rattle.std.specs.Prelude.{slice_index}
 use Rattle.std.specs.Str.{bytes_eq}
-use Rattle.std.proofs.lemmas.Bool.Decides.{leb_tells}
 use Rattle.std.proofs.lemmas.List.{drop_at, take_at, length-append}
 use Rattle.sha2.proofs.Facts256.{length-sha256}
 use Rattle.ec_types.specs.LittleEndian.{u32_bytes}
 use Rattle.ec_types.specs.Tables.{packet_limit}
 use Rattle.ec_types.specs.declared.bus.BusKind.{BusKind}
 use Rattle.ec_types.specs.declared.bus.BusKind.TheVariants.{Lpc, I2c, Spi}
-use Rattle.ec_model.specs.declared.live.HashView.{HashView}
 use Rattle.ec_model.specs.declared.live.HashView.TheVariants.{Busy, Done}
-use Rattle.ec_model.specs.Answer.{Outcome, Answered}
+use Rattle.ec_model.specs.Answer.{Answered}
 use Rattle.ec_model.specs.declared.event.Entry.{Entry}
 use Rattle.ec_model.specs.Asks.{Setting, packet_of}
 use Rattle.ec_model.specs.HostCalls.{HostView}
@@ -23,23 +21,19 @@ use Rattle.ec_model.specs.Table.{Core, ticks_of}
 use Rattle.ec_model.specs.Tries.{resend_request}
 use Rattle.exchange_laws.proofs.Response.{eq-true}
 use Rattle.host_framing.specs.Room.{send_room}
-use Rattle.command_laws.specs.Carried.{led_on, handled_idle, past_erase, carried}
-use Rattle.command_laws.specs.Commands.{IsProper}
-use Rattle.command_laws.specs.Idle.{after_ticks}
-use Rattle.command_laws.specs.Room.{told_body, ask_room, led_room, idle_room, past_room, try_room, command_room}
+use Rattle.command_laws.specs.Carried.{led_on, handled_idle}
+use Rattle.command_laws.specs.Room.{ask_room, led_room, idle_room, try_room, command_room}
 use Rattle.sync_rules.specs.declared.ending.Aim.{Aim}
 use Rattle.sync_rules.specs.declared.ending.Stop.{Stop}
-use Rattle.sync_rules.specs.Parts.{Gives, Then, Waits, Commands, on_success}
 use Rattle.sync_rules.specs.Replies.{confirmed, is_of_rw, hash_told}
 use Rattle.sync_rules.specs.Requests.{hash_request}
-use Rattle.sync_rules.specs.Steps.{StartsHash, AsksHash, Looks, LooksOn, LooksUpTo, Hashes}
+use Rattle.sync_rules.specs.Steps.{StartsHash, AsksHash}
 use Rattle.sync_rules.proofs.Fields.{hash-read}
-use Rattle.sync_laws.specs.Calm.{Reaches, IsReached}
-use Rattle.sync_laws.proofs.Awaiting.{rw_digest, hashing, hashed, ticks-before, ticks-enough}
-use Rattle.sync_laws.proofs.Calmly.{then-reaches, gives-reaches, waits-reach}
-use Rattle.sync_laws.proofs.Proper.{start-proper, look-proper, shown-length}
-use Rattle.sync_laws.proofs.Rows.{unless_pending, hash_body, hash-row}
-use Rattle.sync_laws.proofs.Surveying.{success-reaches, succeeds, is-free}
+use Rattle.sync_laws.specs.Calm.{Reaches}
+use Rattle.sync_laws.proofs.Awaiting.{rw_digest, hashing, hashed}
+use Rattle.sync_laws.proofs.Proper.{start-proper, look-proper}
+use Rattle.sync_laws.proofs.Rows.{unless_pending, hash-row}
+use Rattle.sync_laws.proofs.Surveying.{success-reaches, is-free}
 
 -- more room is enough as well
 pub more-reaches : {A : Type 0} → (setting : Setting) (part : HostView → List Entry → Result A Stop → Type 0) (core : Core) (given : Result A Stop) (after : Core) (few many : ℕ) → few ≤ many → Reaches setting part core given after few → Reaches setting part core given after many

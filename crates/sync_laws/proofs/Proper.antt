@@ -1,30 +1,29 @@
 -- The sync's requests are proper: they fit any bus, and a success has as many bytes as are wanted.
-use Rattle.std.proofs.Common.{◌≡◌, refl, sym, ap, ◌∙◌, subst, ℕ, ◌+◌, ◌-◌, ◌<◌, ◌≤◌, ◌==◌, ◌||◌, Bool, true, false, not, nat_lt, if◌then◌else◌, List, [], ◌∷◌, ◌++◌, length, take, drop, replicate, Option, Some, None, Result, Ok, Err, arith}
-use Rattle.std.specs.Prelude.{is_some, slice_index, take_while}
+use Rattle.std.proofs.Common.{◌≡◌, refl, sym, ap, ◌∙◌, ℕ, ◌-◌, ◌<◌, ◌≤◌, Bool, true, false, if◌then◌else◌, List, [], ◌∷◌, ◌++◌, length, take, replicate, Ok, arith}
+use Rattle.std.specs.Prelude.{is_some, take_while}
 use Rattle.std.proofs.lemmas.List.{length-append, length-replicate, length-take}
-use Rattle.ec_types.specs.LittleEndian.{u32_at, u32_bytes}
+use Rattle.ec_types.specs.LittleEndian.{u32_bytes}
 use Rattle.ec_types.specs.Tables.{packet_limit}
 use Rattle.ec_types.specs.declared.bus.BusKind.{BusKind}
 use Rattle.ec_types.specs.declared.bus.BusKind.TheVariants.{Lpc, I2c, Spi}
 use Rattle.ec_types.specs.declared.image.ImageCopy.TheVariants.{Ro, Rw}
-use Rattle.ec_model.specs.Answer.{Outcome, Answered, Restarts, refused}
+use Rattle.ec_model.specs.Answer.{Outcome, Answered, refused}
 use Rattle.ec_model.specs.Asks.{packet_of}
 use Rattle.ec_model.specs.Bodies.{version_say, flash_protect_ask, region_info_ask, reboot_ask}
-use Rattle.ec_model.specs.Bus.{BusState, kind_of}
 use Rattle.ec_model.specs.Handle.{handled}
-use Rattle.ec_model.specs.InfoRows.{zero_padded, is_shown, version_text, raw_version, copy_number, proto_info_row, flash_info_row, region_info_row, version_row}
-use Rattle.ec_model.specs.Packet.{RequestView, request_packet}
+use Rattle.ec_model.specs.InfoRows.{is_shown, version_text, raw_version, copy_number, proto_info_row, flash_info_row, region_info_row, version_row}
+use Rattle.ec_model.specs.Packet.{RequestView}
 use Rattle.ec_model.specs.ProtectRow.{flash_protect_row}
 use Rattle.ec_model.specs.declared.live.HashView.{HashView}
 use Rattle.ec_model.specs.declared.live.HashView.TheVariants.{Idle, Busy, Done}
 use Rattle.ec_model.specs.HashRow.{hash_bytes, vboot_hash_row}
 use Rattle.ec_model.specs.RebootRow.{reboot_row}
 use Rattle.ec_model.specs.Rounds.{protocol_request}
-use Rattle.ec_model.specs.Table.{Core, Valid, table_of, IsHashable}
-use Rattle.exchange_laws.specs.Served.{IsPlain, is_cold}
+use Rattle.ec_model.specs.Table.{Core, IsHashable}
+use Rattle.exchange_laws.specs.Served.{is_cold}
 use Rattle.exchange_laws.proofs.Spelled.{plain-spelled}
 use Rattle.command_laws.specs.Commands.{Fits, IsProper}
-use Rattle.command_laws.specs.Carried.{IsWanted, tells_any}
+use Rattle.command_laws.specs.Carried.{IsWanted}
 use Rattle.command_laws.proofs.Answering.{IsSound, sound-valid}
 use Rattle.sync_rules.specs.Requests.{version_request, flash_info_request, protect_request, region_request, hash_request, reboot_request}
 use Rattle.sync_laws.proofs.Rows.{unless_pending, hash_body, limits-row, size-row, region-row, copy-row, protect-row, hash-row, reboot-row}

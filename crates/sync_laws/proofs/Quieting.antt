@@ -1,18 +1,16 @@
 -- The bus of a controller that is on is brought to rest, whatever it was doing.
-use Rattle.std.proofs.Common.{◌≡◌, refl, sym, ap, ◌∙◌, subst, ℕ, zero, suc, ◌+◌, ◌*◌, ◌≤◌, Bool, true, false, if◌then◌else◌, List, [], ◌∷◌, length, Option, Some, None, Ok, arith}
+use Rattle.std.proofs.Common.{◌≡◌, refl, sym, ap, ◌∙◌, subst, ℕ, zero, suc, ◌*◌, ◌≤◌, Bool, true, false, if◌then◌else◌, List, [], ◌∷◌, length, Option, Some, None, Ok, arith}
 use Rattle.ec_types.specs.declared.bus.BusKind.{BusKind}
 use Rattle.ec_types.specs.declared.bus.BusKind.TheVariants.{Lpc, I2c, Spi}
 use Rattle.ec_model.specs.declared.event.Access.{Access}
-use Rattle.ec_model.specs.declared.event.Entry.{Entry}
 use Rattle.ec_model.specs.Asks.{Setting}
 use Rattle.ec_model.specs.Bus.{is_busy}
 use Rattle.ec_model.specs.Heard.{poll_end, waited_reads, spaced_reads}
 use Rattle.ec_model.specs.HostCalls.{HostCall, calls_of}
-use Rattle.ec_model.specs.Run.{IsRun}
 use Rattle.ec_model.proofs.RunLaws.{run-valid, run-kind}
 use Rattle.exchange_laws.specs.Calm.{CallsLead}
 use Rattle.exchange_laws.proofs.CalmRun.{calm_lead}
-use Rattle.ec_model.specs.Send.{QuietBy, LpcQuiet}
+use Rattle.ec_model.specs.Send.{QuietBy}
 use Rattle.ec_model.specs.SendLpc.{status_in}
 use Rattle.ec_model.specs.Syncable.{settled, settled_by}
 use Rattle.ec_model.specs.Table.{Table, Power, Off, On, Awake, Core, Valid, core_of}
@@ -20,7 +18,7 @@ use Rattle.exchange_laws.specs.Served.{Settles, LeavesCore}
 use Rattle.exchange_laws.proofs.LpcSend.{lpc-quiet}
 use Rattle.exchange_laws.proofs.I2cSend.{i2c-quiet}
 use Rattle.exchange_laws.proofs.SpiSend.{spi-quiet}
-use Rattle.command_laws.specs.Standing.{IsOpen, IsAt}
+use Rattle.command_laws.specs.Standing.{IsOpen}
 use Rattle.command_laws.proofs.Opening.{HasAwake}
 use Rattle.sync_rules.specs.Parts.{Quiets, Rests}
 use Rattle.sync_laws.specs.Calm.{Opens}

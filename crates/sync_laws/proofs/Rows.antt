@@ -1,12 +1,12 @@
 -- What handling the sync's requests comes to: a refusal while an erase is pending, and else the row of the command.
-use Rattle.std.proofs.Common.{◌≡◌, refl, sym, ap, ◌∙◌, subst, ℕ, ◌+◌, ◌<◌, ◌≤◌, ◌&&◌, Bool, true, false, not, if◌then◌else◌, List, [], length, replicate, Option, Some, None, Result, Ok, Err, arith}
+use Rattle.std.proofs.Common.{◌≡◌, refl, ap, ◌∙◌, ℕ, ◌<◌, ◌&&◌, Bool, true, false, not, if◌then◌else◌, List, [], length, replicate, Option, Some, Result, Ok, Err, arith}
 use Rattle.std.specs.Prelude.{is_some}
-use Rattle.ec_model.specs.Answer.{Outcome, Answered, refused}
+use Rattle.ec_model.specs.Answer.{Outcome, refused}
 use Rattle.ec_model.specs.Bodies.{flash_protect_ask, region_info_ask, vboot_hash_ask, reboot_ask}
 use Rattle.ec_model.specs.Commands as table
 use Rattle.ec_model.specs.Commands.{Command, CommandLine, line, line_of, offers, is_spelled, is_answered_while_erasing}
 use Rattle.ec_model.specs.Handle.{Admitted, row, row_of, admitted_by, admitted_from, handled}
-use Rattle.ec_model.specs.HashRow.{hash_shown, hash_asked, hash_start_row, vboot_hash_row}
+use Rattle.ec_model.specs.HashRow.{vboot_hash_row}
 use Rattle.ec_model.specs.InfoRows.{proto_info_row, flash_info_row, region_info_row, version_row}
 use Rattle.ec_model.specs.Packet.{RequestView, request_packet}
 use Rattle.ec_model.specs.ProtectRow.{flash_protect_row}

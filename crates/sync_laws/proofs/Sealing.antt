@@ -1,41 +1,32 @@
 -- The last steps of a round that nothing disturbs: the locks, the jumps, the hash and the image that runs.
-use Rattle.std.proofs.Common.{◌≡◌, refl, sym, ap, ◌∙◌, subst, ℕ, ◌+◌, ◌-◌, ◌*◌, ◌<◌, ◌≤◌, ◌^◌, ◌||◌, ◌==◌, Bool, true, false, if◌then◌else◌, List, [], ◌++◌, length, Option, Some, None, Result, Ok, Err, arith}
-use Rattle.std.specs.Str.{bytes_eq}
-use Rattle.sha2.specs.Sha256.{sha256}
+use Rattle.std.proofs.Common.{◌≡◌, refl, ap, ℕ, ◌+◌, ◌<◌, ◌≤◌, ◌^◌, ◌||◌, Bool, true, false, if◌then◌else◌, List, [], length, None, Result, Ok, arith}
 use Rattle.ec_types.specs.LittleEndian.{u32_at, bit_if}
 use Rattle.ec_types.specs.Tables.{packet_limit}
 use Rattle.ec_types.specs.declared.bus.BusKind.{BusKind}
 use Rattle.ec_types.specs.declared.bus.BusKind.TheVariants.{Lpc, I2c, Spi}
-use Rattle.ec_model.specs.declared.event.Entry.{Entry}
-use Rattle.ec_model.specs.Answer.{Outcome, Answered}
+use Rattle.ec_model.specs.Answer.{Answered}
 use Rattle.ec_model.specs.Asks.{Setting, packet_of}
-use Rattle.ec_model.specs.Bodies.{flash_protect_ask, flash_protect_say}
+use Rattle.ec_model.specs.Bodies.{flash_protect_say}
 use Rattle.ec_model.specs.Handle.{handled}
-use Rattle.ec_model.specs.HostCalls.{HostView}
 use Rattle.ec_model.specs.Operations.{Operation, after_operations}
 use Rattle.ec_model.specs.Packet.{RequestView}
-use Rattle.ec_model.specs.ProtectRow.{wanted, protect_operations, storing_operations, locks_set, can_lock, protected, protect_view}
-use Rattle.ec_model.specs.Ranges.{rw_range, part}
+use Rattle.ec_model.specs.ProtectRow.{protect_operations, storing_operations, locks_set, protected, protect_view}
 use Rattle.ec_model.specs.Stored.{stored, same_bits}
 use Rattle.ec_model.specs.declared.live.AtBoot.{AtBoot}
 use Rattle.ec_model.specs.Table.{Core}
 use Rattle.host_framing.specs.Room.{send_room}
 use Rattle.command_laws.specs.Commands.{IsProper}
 use Rattle.command_laws.specs.Room.{command_room}
-use Rattle.sync_rules.specs.declared.ending.Aim.{Aim}
 use Rattle.sync_rules.specs.declared.ending.Stop.{Stop}
-use Rattle.sync_rules.specs.Parts.{Gives, Then, Commands, on_success}
-use Rattle.sync_rules.specs.Replies.{confirmed, given_if, flags_told}
+use Rattle.sync_rules.specs.Parts.{Commands, on_success}
+use Rattle.sync_rules.specs.Replies.{confirmed, flags_told}
 use Rattle.sync_rules.specs.Requests.{protect_request, reboot_request}
-use Rattle.sync_rules.specs.Steps.{Protects, Confirms, Checks, AsksCopy, Seals}
+use Rattle.sync_rules.specs.Steps.{Protects, Confirms}
 use Rattle.sync_laws.specs.Calm.{Reaches}
-use Rattle.sync_laws.proofs.Awaiting.{hashed}
-use Rattle.sync_laws.proofs.Calmly.{then-reaches, gives-reaches}
-use Rattle.sync_laws.proofs.Hashed.{IsFree, looks_of, checks-reach}
-use Rattle.sync_laws.proofs.Looked.{more-reaches, success-room, is_aimed}
-use Rattle.sync_laws.proofs.Proper.{protect-proper, disable-proper, copy-proper, versions-length}
+use Rattle.sync_laws.proofs.Looked.{more-reaches, success-room}
+use Rattle.sync_laws.proofs.Proper.{protect-proper, disable-proper}
 use Rattle.sync_laws.proofs.Rows.{unless_pending, protect-row, reboot-row}
-use Rattle.sync_laws.proofs.Surveying.{success-reaches, runs_rw, copy-reaches}
+use Rattle.sync_laws.proofs.Surveying.{success-reaches}
 
 -- a command that succeeds at once, with a bound on its calls
 pub quick-reaches : {A : Type 0} → (setting : Setting) (request : RequestView) (want : ℕ) (told : List ℕ → Result A Stop) (core after : Core) (body : List ℕ) (given : Result A Stop) (most : ℕ) → IsProper setting.bus request want → core.live.erase ≡ None →

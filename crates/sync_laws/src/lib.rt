@@ -4,6 +4,8 @@
 //! contract over all relations of a sync, so that neither the code of `sync_engine` nor the bus is looked at again.
 #![tactic(auto)]
 
+mod keeping;
 mod power;
 
+pub use keeping::kept_syncs_are_done;
 pub use power::{dark_syncs_leave_it_off, syncs_take_no_memory};

@@ -1,18 +1,14 @@
 -- A sync that nothing disturbs, of a controller whose RW has the image and runs.
-use Rattle.std.proofs.Common.{◌≡◌, refl, sym, ap, ◌∙◌, subst, ℕ, zero, suc, ◌+◌, ◌-◌, ◌*◌, ◌/◌, ◌<◌, ◌≤◌, ◌^◌, ◌||◌, Bool, true, false, if◌then◌else◌, List, [], ◌++◌, length, replicate, Option, Some, None, Result, Ok, Err, arith}
+use Rattle.std.proofs.Common.{◌≡◌, refl, sym, ap, ◌∙◌, subst, ℕ, ◌+◌, ◌*◌, ◌/◌, ◌<◌, ◌≤◌, ◌^◌, ◌||◌, Bool, true, false, if◌then◌else◌, List, [], ◌++◌, length, replicate, None, Result, Ok, arith}
 use Rattle.std.specs.Str.{bytes_eq}
-use Rattle.std.proofs.lemmas.List.{length-replicate}
 use Rattle.sha2.specs.Sha256.{sha256}
 use Rattle.ec_types.specs.Tables.{packet_limit}
-use Rattle.ec_types.specs.declared.bus.BusKind.{BusKind}
 use Rattle.ec_types.specs.declared.image.Fit.{Fit}
 use Rattle.ec_types.specs.declared.image.Fit.TheVariants.{Yes}
 use Rattle.ec_types.specs.declared.image.ImageCopy.TheVariants.{Ro, Rw}
-use Rattle.ec_model.specs.declared.event.Entry.{Entry}
 use Rattle.ec_model.specs.Asks.{Setting}
 use Rattle.ec_model.specs.Bodies.{version_say, proto_info_say, flash_info_say1, region_info_say}
-use Rattle.ec_model.specs.HostCalls.{HostView, calls_of, view_after}
-use Rattle.ec_model.specs.Image.{fit_of, expected, padded}
+use Rattle.ec_model.specs.Image.{fit_of, expected}
 use Rattle.ec_model.specs.InfoRows.{version_text, raw_version, copy_number}
 use Rattle.ec_model.specs.ProtectRow.{locks_set, can_lock, protected, protect_view}
 use Rattle.ec_model.specs.Ranges.{rw_range, part, is_flash_size}
@@ -22,13 +18,12 @@ use Rattle.flash_dev.specs.Flash.{block_size}
 use Rattle.command_laws.specs.Room.{command_room}
 use Rattle.command_laws.specs.Standing.{IsOpen}
 use Rattle.sync_rules.specs.declared.ending.Aim.{Aim}
-use Rattle.sync_rules.specs.declared.ending.Plan.{Plan}
 use Rattle.sync_rules.specs.declared.ending.Stop.{Stop}
 use Rattle.sync_rules.specs.Parts.{Gives, Then, When, Rests}
 use Rattle.sync_rules.specs.Replies.{given_if, aim_by, aim_of}
 use Rattle.sync_rules.specs.Requests.{version_request, flash_info_request, region_request, reboot_request}
-use Rattle.sync_rules.specs.Steps.{AsksLimits, AsksSize, AsksRegion, AsksCopy, Surveys, Hashes, Checks, Jumps, JumpLeads, Starts, Protects, Confirms, Seals, plan_of, PlansToWrite, PlansToKeep, Plans, Prepares, Rewrites, CarriesOut}
-use Rattle.sync_laws.specs.Calm.{ReachesFrom, Reaches, Opens}
+use Rattle.sync_rules.specs.Steps.{AsksLimits, AsksSize, AsksRegion, AsksCopy, Surveys, Hashes, Checks, Jumps, JumpLeads, Starts, Protects, Confirms, Seals, plan_of, PlansToWrite, PlansToKeep, Plans, Prepares, CarriesOut}
+use Rattle.sync_laws.specs.Calm.{Reaches, Opens}
 use Rattle.sync_laws.proofs.Awaiting.{hashed}
 use Rattle.sync_laws.proofs.Calmly.{then-from, then-reaches, gives-reaches, when-reaches}
 use Rattle.sync_laws.proofs.Hashed.{IsFree, looks_of, hashes-reach, checks-reach}
@@ -48,7 +43,7 @@ copy-quick setting core none =
     more-reaches setting (AsksCopy setting) core (Ok (runs_rw core.live.copy)) core (command_room setting.bus version_request core) 122 (omega (arith, room, any-room setting.bus 8 (8 + length body), long)) (copy-reaches setting core none)
 
 -- the flash, the erase and the copy stay as they were
-record IsLike (old new : Core) : Type 0 where
+pub record IsLike (old new : Core) : Type 0 where
   pub flash_is : new.flash ≡ old.flash
   pub erase_is : new.live.erase ≡ old.live.erase
   pub copy_is : new.live.copy ≡ old.live.copy
@@ -59,7 +54,7 @@ locks-like core = by (can_lock core) where
   by true = record { flash_is = refl; erase_is = refl; copy_is = refl }
   by false = record { flash_is = refl; erase_is = refl; copy_is = refl }
 
-protected-like : (core : Core) → IsLike core (protected 6 6 core)
+pub protected-like : (core : Core) → IsLike core (protected 6 6 core)
 protected-like core = subst (λ (c : Core). IsLike core c) (sym (only-locks core)) (locks-like core)
 
 -- what a hash of RW needs, of a controller that is like another
@@ -100,7 +95,7 @@ seals-reach setting aim core free sized aimed runs =
     let long = ap (λ (flash : List ℕ). length flash) like.flash_is in
     let still : runs_rw locked.live.copy ≡ true = ap runs_rw like.copy_is ∙ runs in
     let check = subst (λ (size : ℕ). Reaches setting (Checks setting aim) off (Ok tt) (hashed off) (174 + looks_of size * 238 + 0)) long
-        (checks-reach setting aim off free_off (omega (arith, long, sized.least)) (omega (arith, long, sized.most)) (aimed-like aim core locked like ∙ aimed)) in
+    (checks-reach setting aim off free_off (omega (arith, long, sized.least)) (omega (arith, long, sized.most)) (aimed-like aim core locked like ∙ aimed)) in
     let last = then-reaches setting (AsksCopy setting) (λ told. Gives (given_if told tt)) (hashed off) (hashed off) (hashed off) (runs_rw locked.live.copy) (Ok tt) 122 0 (copy-quick setting (hashed off) free_locked.none) (runs-given setting (hashed off) (runs_rw locked.live.copy) still) in
     then-reaches setting (Protects setting 6) (λ flags. Then (Confirms setting (reboot_request 5)) (λ disabled. Then (Checks setting aim) (λ checked. Then (AsksCopy setting) (λ told. Gives (given_if told tt))))) core locked (hashed off) (protect_view locked).flags (Ok tt) 42 (24 + ((174 + looks_of (length core.flash) * 238 + 0) + (122 + 0)))
     (locks-reach setting core free.none)

@@ -1,0 +1,123 @@
+-- The one round of a sync that finds nothing to write.
+use Rattle.std.proofs.Common.{◌≡◌, refl, sym, ap, ◌∙◌, subst, ℕ, ◌+◌, ◌≤◌, ◌||◌, Bool, true, false, if◌then◌else◌, List, ◌++◌, length, append-nil, Option, Some, Result, Ok, arith}
+use Rattle.std.specs.Str.{bytes_eq}
+use Rattle.std.proofs.lemmas.Bool.Decides.{eqb_tells}
+use Rattle.std.proofs.lemmas.Slice.Eq.{bytes_eq-Decides}
+use Rattle.sha2.specs.Sha256.{sha256}
+use Rattle.ec_types.specs.declared.bus.BusKind.{BusKind}
+use Rattle.ec_types.specs.declared.image.ImageCopy.TheVariants.{Rw}
+use Rattle.ec_model.specs.declared.event.Entry.{Entry}
+use Rattle.ec_model.specs.Asks.{Setting}
+use Rattle.ec_model.specs.HostCalls.{HostView, calls_of, view_after}
+use Rattle.ec_model.specs.Image.{expected, padded}
+use Rattle.ec_model.specs.ProtectRow.{can_lock, protected}
+use Rattle.ec_model.specs.Ranges.{rw_range, part, is_flash_size}
+use Rattle.ec_model.specs.Run.{IsRun}
+use Rattle.ec_model.specs.Table.{Table, Core}
+use Rattle.ec_model.proofs.RunLaws.{run-split}
+use Rattle.command_laws.specs.Standing.{IsQuiet, IsOpen, IsAt, HasRoom}
+use Rattle.command_laws.proofs.Answering.{open-sound, sound-valid}
+use Rattle.command_laws.proofs.Parts.{quiet-both, calls-both}
+use Rattle.sync_rules.specs.declared.ending.Plan.{Plan}
+use Rattle.sync_rules.specs.declared.ending.Stop.{Stop}
+use Rattle.sync_rules.specs.declared.ending.SyncEnd.{SyncEnd}
+use Rattle.sync_rules.specs.declared.ending.SyncEnd.TheVariants.{Done}
+use Rattle.sync_rules.specs.Parts.{Leads}
+use Rattle.sync_rules.specs.Steps.{CarriesOut}
+use Rattle.sync_rules.specs.Syncing.{began_writing, SyncRound, end_told, RoundLeads, round_setting, SyncsUpTo, Syncs}
+use Rattle.sync_laws.specs.Kept.{HoldsAndRuns, IsSealed, IsKept, kept_room}
+use Rattle.sync_laws.proofs.Awaiting.{rw_digest, hashed}
+use Rattle.sync_laws.proofs.Calmly.{behind-room}
+use Rattle.sync_laws.proofs.KeptSteps.{IsSized, protected-like, aimed_at, sealed, seal_room, plan_room, plans-keep, keeps-out}
+use Rattle.sync_laws.proofs.Looked.{is_aimed}
+use Rattle.sync_laws.proofs.Sealing.{only-locks}
+use Rattle.sync_laws.proofs.Surveying.{runs_rw}
+
+-- what a round came to
+record IsRoundKept (bus : BusKind) (core : Core) (room : ℕ) (entries : List Entry) (wrote : Bool) (told : Result (Unit {0}) Stop) (last : Table) : Type 0 where
+  pub told_is : told ≡ Ok tt
+  pub wrote_is : wrote ≡ false
+  pub at : IsAt bus (sealed (hashed core)) last
+  pub takes : length (calls_of entries) ≤ room
+
+round-kept : (setting : Setting) (image : List ℕ) (view : HostView) (core : Core) (table : Table) (entries : List Entry) (wrote : Bool) (told : Result (Unit {0}) Stop) (last : Table) → IsOpen setting.bus core table →
+    HasRoom setting view (plan_room (length core.flash) + (0 + seal_room (length core.flash))) → IsQuiet entries → IsRun table entries last → IsSized core → HoldsAndRuns image core → is_aimed (aimed_at image core) core ≡ true →
+    SyncRound setting image view entries wrote told → IsRoundKept setting.bus core (plan_room (length core.flash) + (0 + seal_room (length core.flash))) entries wrote told last
+round-kept setting image view core table entries wrote told last from has quiet run sized holds aimed round =
+    let size = length core.flash in
+    let runs : runs_rw core.live.copy ≡ true = ap runs_rw holds.runs in
+    let split = run-split table last round.planning round.rest (subst (λ (xs : List Entry). IsRun table xs last) round.parts run) in
+    let quiets = quiet-both round.planning round.rest (subst (λ (xs : List Entry). IsQuiet xs) round.parts quiet) in
+    let plans = plans-keep setting image core holds.none sized holds.fits aimed runs view table round.planning round.planned split.0 from (record { on = has.on; enough = omega (arith, has.enough) }) quiets.0 split.1 round.plans in
+    let leads = subst (λ (planned : Result Plan Stop). Leads planned (CarriesOut setting image) (view_after round.planning view) round.rest told) plans.told_is round.leads in
+    let room = behind-room setting view round.planning (plan_room size) (0 + seal_room size) quiets.0 plans.takes has in
+    let out = keeps-out setting image core holds.none sized aimed runs (view_after round.planning view) split.0 round.rest told last plans.at room quiets.1 split.2 leads in
+    record {
+      told_is = out.told_is;
+      wrote_is = round.wrote_is ∙ ap began_writing plans.told_is;
+      at = out.at;
+      takes = subst (λ (xs : List Entry). length (calls_of xs) ≤ plan_room size + (0 + seal_room size)) (sym round.parts) (omega (arith, calls-both round.planning round.rest, plans.takes, out.takes));
+    }
+
+or-true : (test : Bool) → (test || true) ≡ true
+or-true true = refl
+or-true false = refl
+
+-- bytes are equal to themselves
+bytes-self : (bytes : List ℕ) → bytes_eq bytes bytes ≡ true
+bytes-self bytes = (bytes_eq-Decides bytes bytes).1 refl
+
+-- the size of a controller's flash
+sized-by : (size : ℕ) → is_flash_size size ≡ true → (65536 ≤ size) × (size ≤ 4194304)
+sized-by size is = (grind (arith, eqb_tells), grind (arith, eqb_tells))
+
+sized-open : (bus : BusKind) (core : Core) (table : Table) → IsOpen bus core table → IsSized core
+sized-open bus core table from =
+    let valid = sound-valid bus core (open-sound bus core table from) in
+    let bounds = sized-by (length core.flash) valid.size in
+    record { stated = valid.size; least = bounds.0; most = bounds.1 }
+
+-- the locks, where they can be set
+locks-by : (core : Core) (locks : Bool) → locks ≡ true → (after : Core) → after ≡ (if locks then record core { live = record core.live { ro_now = (core.live.ro_now || true) || true; all_now = core.live.all_now || true } } else core) →
+    (after.live.ro_now ≡ true) × (after.live.all_now ≡ true)
+locks-by core true is after same = (ap (λ (c : Core). c.live.ro_now) same ∙ or-true (core.live.ro_now || true), ap (λ (c : Core). c.live.all_now) same ∙ or-true core.live.all_now)
+locks-by core false is after same = absurd (cc)
+
+-- what the last steps leave
+seal-is : (bus : BusKind) (core : Core) (last : Table) → core.live.copy ≡ Rw → IsAt bus (sealed (hashed core)) last → IsSealed bus core (sealed (hashed core)) last
+seal-is bus core last runs at =
+    let like = protected-like (hashed core) in
+    record {
+      at = at;
+      flash_is = like.flash_is;
+      runs = like.copy_is ∙ runs;
+      jump_off = refl;
+      locked = λ can. locks-by (hashed core) (can_lock core) can (protected 6 6 (hashed core)) (only-locks (hashed core));
+    }
+
+-- RW has the digest that is aimed at
+aimed-holds : (image : List ℕ) (core : Core) → part (rw_range (length core.flash)) core.flash ≡ padded image (length core.flash) → is_aimed (aimed_at image core) core ≡ true
+aimed-holds image core holds =
+    let digest : rw_digest core ≡ expected image (length core.flash) = ap sha256 holds in
+    ap (λ (bytes : List ℕ). bytes_eq bytes (expected image (length core.flash))) digest ∙ bytes-self (expected image (length core.flash))
+
+pub sync-kept : (bus : BusKind) (image : List ℕ) (view : HostView) (core : Core) (table : Table) (entries : List Entry) (end : SyncEnd) (last : Table) → IsOpen bus core table → view.on ≡ true → 12000000 ≤ view.spare → IsQuiet entries → IsRun table entries last →
+    HoldsAndRuns image core → Syncs bus image view entries end → IsKept bus core entries end last
+sync-kept bus image view core table entries end last from on room quiet run holds (first, rest, writes, told, parts, round, leads) =
+    let size = length core.flash in
+    let sized = sized-open bus core table from in
+    let setting = round_setting bus 2 in
+    let split = run-split table last first rest (subst (λ (xs : List Entry). IsRun table xs last) parts run) in
+    let quiets = quiet-both first rest (subst (λ (xs : List Entry). IsQuiet xs) parts quiet) in
+    let few : 8000000 + 1500 + (plan_room size + (0 + seal_room size)) ≤ view.spare = omega (arith, room, sized.most) in
+    let kept = round-kept setting image view core table first writes told split.0 from (record { on = on; enough = few }) quiets.0 split.1 sized holds (aimed-holds image core holds.holds) round in
+    let told_end : end_told told (false || writes) ≡ Some (Done false) = ap (λ (result : Result (Unit {0}) Stop). end_told result (false || writes)) kept.told_is ∙ ap (λ (wrote : Bool). Some (Done wrote)) kept.wrote_is in
+    let over = subst (λ (reached : Option SyncEnd). RoundLeads reached (SyncsUpTo 2 (false || writes) bus image (view_after first view) rest end) rest end) told_end leads in
+    let still = subst (λ (xs : List Entry). IsRun split.0 xs last) over.0 split.2 in
+    let at = subst (λ (t : Table). IsAt bus (sealed (hashed core)) t) (sym still) kept.at in
+    record {
+      end_is = over.1;
+      after = sealed (hashed core);
+      sealed = seal-is bus core last holds.runs at;
+      takes = subst (λ (xs : List Entry). length (calls_of xs) ≤ kept_room size) (sym (parts ∙ ap (λ (xs : List Entry). first ++ xs) over.0 ∙ append-nil first)) (omega (arith, kept.takes));
+    }

@@ -1,0 +1,40 @@
+-- A sync that finds nothing to write.
+use Rattle.std.specs.Prelude.{◌≡◌, ◌≤◌, ◌+◌, ◌*◌, ◌/◌, ℕ, true, false, List, length, None}
+use Rattle.ec_types.specs.declared.bus.BusKind.{BusKind}
+use Rattle.ec_types.specs.declared.image.Fit.TheVariants.{Yes}
+use Rattle.ec_types.specs.declared.image.ImageCopy.TheVariants.{Rw}
+use Rattle.ec_model.specs.declared.event.Entry.{Entry}
+use Rattle.ec_model.specs.HostCalls.{calls_of}
+use Rattle.ec_model.specs.Image.{fit_of, padded}
+use Rattle.ec_model.specs.ProtectRow.{can_lock}
+use Rattle.ec_model.specs.Ranges.{rw_range, part}
+use Rattle.ec_model.specs.Table.{Table, Core}
+use Rattle.command_laws.specs.Standing.{IsAt}
+use Rattle.sync_rules.specs.declared.ending.SyncEnd.{SyncEnd}
+use Rattle.sync_rules.specs.declared.ending.SyncEnd.TheVariants.{Done}
+
+-- RW has the image, which fits, and runs, and no erase is pending
+pub record HoldsAndRuns (image : List ℕ) (core : Core) : Type 0 where
+  pub fits : fit_of image (length core.flash) ≡ Yes
+  pub holds : part (rw_range (length core.flash)) core.flash ≡ padded image (length core.flash)
+  pub runs : core.live.copy ≡ Rw
+  pub none : core.live.erase ≡ None
+
+-- the controller behind it: its flash as it was, RW runs, no jump is left, and where locks can be set they are
+pub record IsSealed (bus : BusKind) (core after : Core) (last : Table) : Type 0 where
+  pub at : IsAt bus after last
+  pub flash_is : after.flash ≡ core.flash
+  pub runs : after.live.copy ≡ Rw
+  pub jump_off : after.live.jump_off ≡ true
+  pub locked : can_lock core ≡ true → (after.live.ro_now ≡ true) × (after.live.all_now ≡ true)
+
+-- how many calls it takes at most: two hashes, and seven other commands
+abbrev pub kept_room : ℕ → ℕ
+kept_room size = 781 + ((rw_range size).size / 65536 + 1) * 476
+
+-- it is done, and nothing was written
+pub record IsKept (bus : BusKind) (core : Core) (entries : List Entry) (end : SyncEnd) (last : Table) : Type 0 where
+  pub end_is : end ≡ Done false
+  pub after : Core
+  pub sealed : IsSealed bus core after last
+  pub takes : length (calls_of entries) ≤ kept_room (length core.flash)
