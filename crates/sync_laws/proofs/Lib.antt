@@ -12,3 +12,4 @@ pub mod Quieting
 pub mod Sealing
 pub mod KeptSteps
 pub mod KeptRounds
+pub mod Jumping

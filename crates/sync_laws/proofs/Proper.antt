@@ -1,5 +1,5 @@
 -- The sync's requests are proper: they fit any bus, and a success has as many bytes as are wanted.
-use Rattle.std.proofs.Common.{◌≡◌, refl, sym, ap, ◌∙◌, ℕ, ◌-◌, ◌<◌, ◌≤◌, Bool, true, false, if◌then◌else◌, List, [], ◌∷◌, ◌++◌, length, take, replicate, Ok, arith}
+use Rattle.std.proofs.Common.{◌≡◌, refl, sym, ap, ◌∙◌, ℕ, ◌-◌, ◌<◌, ◌≤◌, Bool, true, false, if◌then◌else◌, List, [], ◌∷◌, ◌++◌, length, take, replicate, Ok, arith, not}
 use Rattle.std.specs.Prelude.{is_some, take_while}
 use Rattle.std.proofs.lemmas.List.{length-append, length-replicate, length-take}
 use Rattle.ec_types.specs.LittleEndian.{u32_bytes}
@@ -17,7 +17,9 @@ use Rattle.ec_model.specs.ProtectRow.{flash_protect_row}
 use Rattle.ec_model.specs.declared.live.HashView.{HashView}
 use Rattle.ec_model.specs.declared.live.HashView.TheVariants.{Idle, Busy, Done}
 use Rattle.ec_model.specs.HashRow.{hash_bytes, vboot_hash_row}
-use Rattle.ec_model.specs.RebootRow.{reboot_row}
+use Rattle.ec_model.specs.Jump.{same_copy, is_denied, has_vector, jumped}
+use Rattle.ec_model.specs.RebootRow.{jump_row, reboot_row}
+use Rattle.ec_model.proofs.GuardSteps.{if_cases}
 use Rattle.ec_model.specs.Rounds.{protocol_request}
 use Rattle.ec_model.specs.Table.{Core, IsHashable}
 use Rattle.exchange_laws.specs.Served.{is_cold}
@@ -158,4 +160,23 @@ disable-proper bus = record {
   body = omega arith;
   steady = refl;
   wanted = wanted-of bus (reboot_request 5) 0 (λ core limit. reboot_row core (reboot_ask 5 0)) (λ core limit. reboot-row core limit 5) (λ core limit. told-length 0 _ [] refl);
+}
+
+-- REBOOT_EC JUMP_RW
+empty-length : (core : Core) (status : ℕ) → HasLength 0 (Answered core status [])
+empty-length core status after body same = let none : body ≡ [] = cc in ap (λ (bytes : List ℕ). length bytes) none
+
+jump-length : (core : Core) → HasLength 0 (jump_row Rw core)
+jump-length core =
+    if_cases (HasLength 0) (same_copy Rw core.live.copy) _ _ (λ runs. empty-length core 0)
+    (λ other. if_cases (HasLength 0) (is_denied core Rw) _ _ (λ denied. empty-length core 4)
+    (λ granted. if_cases (HasLength 0) (not (has_vector core.flash Rw)) _ _ (λ outside. empty-length core 2) (λ inside. empty-length (jumped Rw core) 0)))
+
+pub jump-proper : (bus : BusKind) → IsProper bus (reboot_request 2) 0
+jump-proper bus = record {
+  fits = fits-any bus 0xD2 0 (reboot_ask 2 0) (omega arith) (omega arith) refl;
+  number = omega arith;
+  body = omega arith;
+  steady = refl;
+  wanted = wanted-of bus (reboot_request 2) 0 (λ core limit. reboot_row core (reboot_ask 2 0)) (λ core limit. reboot-row core limit 2) (λ core limit. jump-length core);
 }
