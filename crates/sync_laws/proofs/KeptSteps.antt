@@ -35,7 +35,7 @@ use Rattle.sync_laws.proofs.Sealing.{any-room, only-locks, locks-reach, without_
 use Rattle.sync_laws.proofs.Surveying.{runs_rw, copy-reaches, limits-reach, size-reaches, region-reaches}
 
 -- the copy that runs, with a bound on its calls
-copy-quick : (setting : Setting) (core : Core) → core.live.erase ≡ None → Reaches setting (AsksCopy setting) core (Ok (runs_rw core.live.copy)) core 122
+pub copy-quick : (setting : Setting) (core : Core) → core.live.erase ≡ None → Reaches setting (AsksCopy setting) core (Ok (runs_rw core.live.copy)) core 122
 copy-quick setting core none =
     let body = version_say (version_text (raw_version Ro core.flash)) (version_text (raw_version Rw core.flash)) (replicate 32 0) (copy_number core.live.copy) in
     let room = success-room setting.bus version_request core core body none (copy-row core (packet_limit setting.bus)) in

@@ -1,5 +1,5 @@
 -- The looks at a hash that nothing disturbs: the hash of RW is told once it is finished.
-use Rattle.std.proofs.Common.{◌≡◌, refl, ap, ◌∙◌, ℕ, ◌+◌, ◌*◌, ◌/◌, ◌<◌, ◌≤◌, ◌^◌, ◌&&◌, Bool, true, List, [], ◌∷◌, ◌++◌, length, take, drop, replicate, Some, None, Result, Ok, arith}
+use Rattle.std.proofs.Common.{◌≡◌, refl, ap, ◌∙◌, ℕ, ◌+◌, ◌*◌, ◌/◌, ◌<◌, ◌≤◌, ◌^◌, ◌&&◌, Bool, true, List, [], ◌∷◌, ◌++◌, length, take, drop, replicate, Some, None, Result, Ok, arith, ◌==◌, false}
 use Rattle.std.specs.Prelude.{slice_index}
 use Rattle.std.specs.Str.{bytes_eq}
 use Rattle.std.proofs.lemmas.List.{drop_at, take_at, length-append}
@@ -33,7 +33,8 @@ use Rattle.sync_laws.specs.Calm.{Reaches}
 use Rattle.sync_laws.proofs.Awaiting.{rw_digest, hashing, hashed}
 use Rattle.sync_laws.proofs.Proper.{start-proper, look-proper}
 use Rattle.sync_laws.proofs.Rows.{unless_pending, hash-row}
-use Rattle.sync_laws.proofs.Surveying.{success-reaches, is-free}
+use Rattle.command_laws.proofs.PastErase.{led-off, room-off}
+use Rattle.sync_laws.proofs.Surveying.{success-reaches, is-free, answers}
 
 -- more room is enough as well
 pub more-reaches : {A : Type 0} → (setting : Setting) (part : HostView → List Entry → Result A Stop → Type 0) (core : Core) (given : Result A Stop) (after : Core) (few many : ℕ) → few ≤ many → Reaches setting part core given after few → Reaches setting part core given after many
@@ -41,19 +42,23 @@ more-reaches setting part core given after few many less reaches view table entr
     let is = reaches view table entries told last at (record { on = has.on; enough = omega (arith, has.enough, less) }) quiet run does in
     record { told_is = is.told_is; at = is.at; takes = omega (arith, is.takes, less) }
 
--- the calls of a command that succeeds at once
+-- the calls of a command that is answered at once
+pub answer-room : (bus : BusKind) (request : RequestView) (core after : Core) (status : ℕ) (body : List ℕ) → core.live.erase ≡ None → (status == 16) ≡ false → (status == 8) ≡ false → (status == 3) ≡ false →
+    handled core (packet_limit bus) (packet_of request) ≡ unless_pending core (Answered after status body) → command_room bus request core ≡ send_room bus (length (packet_of request)) (8 + length body)
+answer-room bus request core after status body none free done valid row =
+    let limit = packet_limit bus in
+    let is = row ∙ is-free core (Answered after status body) none in
+    let past = ap (led_on 16 (handled_idle limit request)) is ∙ led-off 16 status (handled_idle limit request) after body free in
+    let whole = answers limit request core after status body none free done row in
+    let ask = ap (ask_room bus request) is in
+    let first = ap (led_room 16 (idle_room bus request)) is ∙ room-off 16 status (idle_room bus request) after body free in
+    let second = ap (led_room 8 (idle_room bus resend_request)) past ∙ room-off 8 status (idle_room bus resend_request) after body done in
+    let third = ap (led_room 3 (λ left. 2 * try_room bus request left)) whole ∙ room-off 3 status (λ left. 2 * try_room bus request left) after body valid in
+    omega (arith, ask, first, second, third)
+
 pub success-room : (bus : BusKind) (request : RequestView) (core after : Core) (body : List ℕ) → core.live.erase ≡ None → handled core (packet_limit bus) (packet_of request) ≡ unless_pending core (Answered after 0 body) →
     command_room bus request core ≡ send_room bus (length (packet_of request)) (8 + length body)
-success-room bus request core after body none row =
-    let limit = packet_limit bus in
-    let is = row ∙ is-free core (Answered after 0 body) none in
-    let past = ap (led_on 16 (handled_idle limit request)) is in
-    let whole = ap (led_on 8 (handled_idle limit resend_request)) past in
-    let ask = ap (ask_room bus request) is in
-    let first = ap (led_room 16 (idle_room bus request)) is in
-    let second = ap (led_room 8 (idle_room bus resend_request)) past in
-    let third = ap (led_room 3 (λ left. 2 * try_room bus request left)) whole in
-    omega (arith, ask, first, second, third)
+success-room bus request core after body none row = answer-room bus request core after 0 body none refl refl refl row
 
 -- a look and a START take as many calls on each bus, but for one
 hash-room : (bus : BusKind) → send_room bus 84 84 ≤ 174

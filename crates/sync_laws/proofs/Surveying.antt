@@ -24,6 +24,7 @@ use Rattle.exchange_laws.proofs.Response.{eq-true}
 use Rattle.command_laws.specs.Carried.{carried, led_on, handled_idle}
 use Rattle.command_laws.specs.Commands.{IsProper}
 use Rattle.command_laws.specs.Room.{command_room}
+use Rattle.command_laws.proofs.PastErase.{led-off}
 use Rattle.sync_rules.specs.declared.ending.Stop.{Stop}
 use Rattle.sync_rules.specs.Parts.{Commands, on_success}
 use Rattle.sync_rules.specs.Replies.{limits_told, size_told, region_told, runs_rw_told}
@@ -43,9 +44,15 @@ free-by core outcome (Some job) is = absurd (cc)
 pub is-free : (core : Core) (outcome : Outcome) → core.live.erase ≡ None → unless_pending core outcome ≡ outcome
 is-free core outcome none = free-by core outcome core.live.erase none
 
+-- a command that is answered at once, neither that an erase is pending nor that it goes on
+pub answers : (limit : ℕ) (request : RequestView) (core after : Core) (status : ℕ) (body : List ℕ) → core.live.erase ≡ None → (status == 16) ≡ false → (status == 8) ≡ false →
+    handled core limit (packet_of request) ≡ unless_pending core (Answered after status body) → carried limit request core ≡ Answered after status body
+answers limit request core after status body none free done is =
+    ap (λ (outcome : Outcome). led_on 8 (handled_idle limit resend_request) (led_on 16 (handled_idle limit request) outcome)) (is ∙ free-by core (Answered after status body) core.live.erase none)
+    ∙ ap (led_on 8 (handled_idle limit resend_request)) (led-off 16 status (handled_idle limit request) after body free) ∙ led-off 8 status (handled_idle limit resend_request) after body done
+
 pub succeeds : (limit : ℕ) (request : RequestView) (core after : Core) (body : List ℕ) → core.live.erase ≡ None → handled core limit (packet_of request) ≡ unless_pending core (Answered after 0 body) → carried limit request core ≡ Answered after 0 body
-succeeds limit request core after body none is =
-    ap (λ (outcome : Outcome). led_on 8 (handled_idle limit resend_request) (led_on 16 (handled_idle limit request) outcome)) (is ∙ free-by core (Answered after 0 body) core.live.erase none)
+succeeds limit request core after body none is = answers limit request core after 0 body none refl refl is
 
 -- a command that has to succeed, and does
 pub success-reaches : {A : Type 0} → (setting : Setting) (request : RequestView) (want : ℕ) (told : List ℕ → Result A Stop) (core after : Core) (body : List ℕ) (given : Result A Stop) → IsProper setting.bus request want →
