@@ -1,35 +1,26 @@
 -- A jump to RW that nothing disturbs.
-use Rattle.std.proofs.Common.{◌≡◌, refl, sym, ap, ◌∙◌, subst, ℕ, ◌+◌, ◌-◌, ◌<◌, ◌≤◌, ◌&&◌, Bool, true, false, not, nat_lt, if◌then◌else◌, List, [], ◌∷◌, ◌++◌, length, replicate, Option, Some, None, Result, Ok, Err, arith}
+use Rattle.std.proofs.Common.{◌≡◌, refl, ap, ◌∙◌, subst, ℕ, ◌+◌, ◌-◌, ◌≤◌, ◌&&◌, Bool, true, false, not, nat_lt, if◌then◌else◌, List, [], ◌∷◌, ◌++◌, length, replicate, Option, Some, None, Ok, arith}
 use Rattle.std.proofs.lemmas.Bool.Decides.{leb_tells}
 use Rattle.ec_types.specs.LittleEndian.{u32_at}
 use Rattle.ec_types.specs.Tables.{packet_limit}
-use Rattle.ec_types.specs.declared.image.Fit.{Fit}
 use Rattle.ec_types.specs.declared.image.Fit.TheVariants.{Yes, Short, Long, Vector}
 use Rattle.ec_types.specs.declared.image.ImageCopy.{ImageCopy}
 use Rattle.ec_types.specs.declared.image.ImageCopy.TheVariants.{Ro, Rw}
-use Rattle.ec_model.specs.declared.event.Entry.{Entry}
-use Rattle.ec_model.specs.Answer.{Outcome, Answered, done, refused}
-use Rattle.ec_model.specs.Asks.{Setting, packet_of}
+use Rattle.ec_model.specs.Answer.{Answered, done, refused}
+use Rattle.ec_model.specs.Asks.{Setting}
 use Rattle.ec_model.specs.Boot.{booted}
-use Rattle.ec_model.specs.Handle.{handled}
-use Rattle.ec_model.specs.HostCalls.{HostView}
 use Rattle.ec_model.specs.Image.{fit_of, padded}
 use Rattle.ec_model.specs.Jump.{same_copy, is_denied, vector_in, has_vector, jumped}
-use Rattle.ec_model.specs.Packet.{RequestView}
 use Rattle.ec_model.specs.Ranges.{rw_range, part}
-use Rattle.ec_model.specs.RebootRow.{jump_row}
 use Rattle.ec_model.specs.Table.{Core}
-use Rattle.ec_model.specs.Tries.{Said, Answered as SaidAnswered}
 use Rattle.ec_model.specs.declared.live.EraseJob.{EraseJob}
 use Rattle.ec_types.specs.declared.bus.BusKind.{BusKind}
 use Rattle.ec_types.specs.declared.bus.BusKind.TheVariants.{Lpc, I2c, Spi}
 use Rattle.ec_types.specs.declared.reset.ResetCause.TheVariants.{Cold as ColdReset}
 use Rattle.command_laws.specs.Idle.{after_ticks}
 use Rattle.command_laws.specs.Restarting.{blocks_left, restarted, restart_room}
-use Rattle.command_laws.specs.Commands.{IsProper}
 use Rattle.command_laws.specs.Room.{command_room}
 use Rattle.sync_rules.specs.declared.ending.Jump.TheVariants.{Jumped, Denied}
-use Rattle.sync_rules.specs.declared.ending.Stop.{Stop}
 use Rattle.sync_rules.specs.Parts.{Gives, Then, When, Colds}
 use Rattle.sync_rules.specs.Replies.{jump_told, last_jump_told}
 use Rattle.sync_rules.specs.Requests.{reboot_request}

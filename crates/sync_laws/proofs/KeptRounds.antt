@@ -1,11 +1,10 @@
 -- The one round of a sync that finds nothing to write.
-use Rattle.std.proofs.Common.{◌≡◌, refl, sym, ap, ◌∙◌, subst, ℕ, ◌+◌, ◌≤◌, ◌||◌, Bool, true, false, if◌then◌else◌, List, ◌++◌, length, append-nil, Option, Some, Result, Ok, arith}
+use Rattle.std.proofs.Common.{◌≡◌, refl, sym, ap, ◌∙◌, subst, ℕ, ◌+◌, ◌≤◌, ◌||◌, Bool, true, false, if◌then◌else◌, List, ◌++◌, length, append-nil, Option, Some, Result, Ok, arith, ◌^◌, ◌<◌, ◌&&◌, []}
 use Rattle.std.specs.Str.{bytes_eq}
 use Rattle.std.proofs.lemmas.Bool.Decides.{eqb_tells}
 use Rattle.std.proofs.lemmas.Slice.Eq.{bytes_eq-Decides}
 use Rattle.sha2.specs.Sha256.{sha256}
 use Rattle.ec_types.specs.declared.bus.BusKind.{BusKind}
-use Rattle.ec_types.specs.declared.image.ImageCopy.TheVariants.{Rw}
 use Rattle.ec_model.specs.declared.event.Entry.{Entry}
 use Rattle.ec_model.specs.Asks.{Setting}
 use Rattle.ec_model.specs.HostCalls.{HostView, calls_of, view_after}
@@ -18,14 +17,18 @@ use Rattle.ec_model.proofs.RunLaws.{run-split}
 use Rattle.command_laws.specs.Standing.{IsQuiet, IsOpen, IsAt, HasRoom}
 use Rattle.command_laws.proofs.Answering.{open-sound, sound-valid}
 use Rattle.command_laws.proofs.Parts.{quiet-both, calls-both}
+use Rattle.ec_model.specs.Stored.{stored}
+use Rattle.sync_laws.specs.Calm.{Reaches}
+use Rattle.sync_laws.proofs.Hashed.{IsFree}
+use Rattle.sync_laws.proofs.Jumping.{IsStarted, CanStart, can-start, vector-held}
 use Rattle.sync_rules.specs.declared.ending.Plan.{Plan}
 use Rattle.sync_rules.specs.declared.ending.Stop.{Stop}
 use Rattle.sync_rules.specs.declared.ending.SyncEnd.{SyncEnd}
 use Rattle.sync_rules.specs.declared.ending.SyncEnd.TheVariants.{Done}
 use Rattle.sync_rules.specs.Parts.{Leads}
-use Rattle.sync_rules.specs.Steps.{CarriesOut}
+use Rattle.sync_rules.specs.Steps.{CarriesOut, plan_of}
 use Rattle.sync_rules.specs.Syncing.{began_writing, SyncRound, end_told, RoundLeads, round_setting, SyncsUpTo, Syncs}
-use Rattle.sync_laws.specs.Kept.{HoldsAndRuns, IsSealed, IsKept, kept_room}
+use Rattle.sync_laws.specs.Kept.{HoldsFitting, IsSealed, IsKept, kept_room}
 use Rattle.sync_laws.proofs.Awaiting.{rw_digest, hashed}
 use Rattle.sync_laws.proofs.Calmly.{behind-room}
 use Rattle.sync_laws.proofs.KeptSteps.{IsSized, protected-like, aimed_at, sealed, seal_room, plan_room, plans-keep, keeps-out}
@@ -33,30 +36,47 @@ use Rattle.sync_laws.proofs.Looked.{is_aimed}
 use Rattle.sync_laws.proofs.Sealing.{only-locks}
 use Rattle.sync_laws.proofs.Surveying.{runs_rw}
 
+-- a flash of the same bytes has the same size
+sized-like : (core after : Core) → after.flash ≡ core.flash → IsSized core → IsSized after
+sized-like core after same sized = record {
+  stated = subst (λ (flash : List ℕ). is_flash_size (length flash) ≡ true) (sym same) sized.stated;
+  least = subst (λ (flash : List ℕ). 65536 ≤ length flash) (sym same) sized.least;
+  most = subst (λ (flash : List ℕ). length flash ≤ 4194304) (sym same) sized.most;
+}
+
 -- what a round came to
-record IsRoundKept (bus : BusKind) (core : Core) (room : ℕ) (entries : List Entry) (wrote : Bool) (told : Result (Unit {0}) Stop) (last : Table) : Type 0 where
+record IsRoundKept (bus : BusKind) (core after : Core) (room : ℕ) (entries : List Entry) (wrote : Bool) (told : Result (Unit {0}) Stop) (last : Table) : Type 0 where
   pub told_is : told ≡ Ok tt
   pub wrote_is : wrote ≡ false
-  pub at : IsAt bus (sealed (hashed core)) last
+  pub at : IsAt bus (sealed after) last
   pub takes : length (calls_of entries) ≤ room
 
+-- the room of a round
+abbrev round_kept_room : ℕ → ℕ
+round_kept_room size = plan_room size + (0 + seal_room size)
+
 round-kept : (setting : Setting) (image : List ℕ) (view : HostView) (core : Core) (table : Table) (entries : List Entry) (wrote : Bool) (told : Result (Unit {0}) Stop) (last : Table) → IsOpen setting.bus core table →
-    HasRoom setting view (plan_room (length core.flash) + (0 + seal_room (length core.flash))) → IsQuiet entries → IsRun table entries last → IsSized core → HoldsAndRuns image core → is_aimed (aimed_at image core) core ≡ true →
-    SyncRound setting image view entries wrote told → IsRoundKept setting.bus core (plan_room (length core.flash) + (0 + seal_room (length core.flash))) entries wrote told last
-round-kept setting image view core table entries wrote told last from has quiet run sized holds aimed round =
+    HasRoom setting view (round_kept_room (length core.flash)) → IsQuiet entries → IsRun table entries last → IsSized core → HoldsFitting image core → is_aimed (aimed_at image core) core ≡ true → (can : CanStart setting (hashed core)) →
+    SyncRound setting image view entries wrote told → IsRoundKept setting.bus core can.after (round_kept_room (length core.flash)) entries wrote told last
+round-kept setting image view core table entries wrote told last from has quiet run sized holds aimed can round =
     let size = length core.flash in
-    let runs : runs_rw core.live.copy ≡ true = ap runs_rw holds.runs in
+    let aim = aimed_at image core in
+    let after = can.after in
+    let same : after.flash ≡ core.flash = (can.started).flash_is in
     let split = run-split table last round.planning round.rest (subst (λ (xs : List Entry). IsRun table xs last) round.parts run) in
     let quiets = quiet-both round.planning round.rest (subst (λ (xs : List Entry). IsQuiet xs) round.parts quiet) in
-    let plans = plans-keep setting image core holds.none sized holds.fits aimed runs view table round.planning round.planned split.0 from (record { on = has.on; enough = omega (arith, has.enough) }) quiets.0 split.1 round.plans in
+    let plans = plans-keep setting image core after holds.none sized holds.fits aimed can.starts view table round.planning round.planned split.0 from (record { on = has.on; enough = omega (arith, has.enough) }) quiets.0 split.1 round.plans in
     let leads = subst (λ (planned : Result Plan Stop). Leads planned (CarriesOut setting image) (view_after round.planning view) round.rest told) plans.told_is round.leads in
     let room = behind-room setting view round.planning (plan_room size) (0 + seal_room size) quiets.0 plans.takes has in
-    let out = keeps-out setting image core holds.none sized aimed runs (view_after round.planning view) split.0 round.rest told last plans.at room quiets.1 split.2 leads in
+    let free : IsFree aim after = record { none = (can.started).none; geometry = sym (ap (λ (flash : List ℕ). length flash) same); small = subst (λ (flash : List ℕ). length flash < 2 ^ 32) (sym same) (omega (arith, sized.most)) } in
+    let aimed_after : is_aimed aim after ≡ true = ap (λ (flash : List ℕ). bytes_eq (sha256 ([] ++ part (rw_range (length flash)) flash)) aim.digest) same ∙ aimed in
+    let steps = subst (λ (flash : List ℕ). Reaches setting (CarriesOut setting image (plan_of aim false)) after (Ok tt) (sealed after) (0 + seal_room (length flash))) same (keeps-out setting image aim after free (sized-like core after same sized) aimed_after (ap runs_rw (can.started).runs)) in
+    let out = steps (view_after round.planning view) split.0 round.rest told last plans.at room quiets.1 split.2 leads in
     record {
       told_is = out.told_is;
       wrote_is = round.wrote_is ∙ ap began_writing plans.told_is;
       at = out.at;
-      takes = subst (λ (xs : List Entry). length (calls_of xs) ≤ plan_room size + (0 + seal_room size)) (sym round.parts) (omega (arith, calls-both round.planning round.rest, plans.takes, out.takes));
+      takes = subst (λ (xs : List Entry). length (calls_of xs) ≤ round_kept_room size) (sym round.parts) (omega (arith, calls-both round.planning round.rest, plans.takes, out.takes));
     }
 
 or-true : (test : Bool) → (test || true) ≡ true
@@ -83,16 +103,20 @@ locks-by : (core : Core) (locks : Bool) → locks ≡ true → (after : Core) �
 locks-by core true is after same = (ap (λ (c : Core). c.live.ro_now) same ∙ or-true (core.live.ro_now || true), ap (λ (c : Core). c.live.all_now) same ∙ or-true core.live.all_now)
 locks-by core false is after same = absurd (cc)
 
+-- whether locks can be set
+can-lock-same : (core after : Core) → after.flash ≡ core.flash → after.pin ≡ core.pin → can_lock core ≡ true → can_lock after ≡ true
+can-lock-same core after flash pin can = ap (λ (bytes : List ℕ). after.pin && (stored bytes).ro) flash ∙ ap (λ (asserted : Bool). asserted && (stored core.flash).ro) pin ∙ can
+
 -- what the last steps leave
-seal-is : (bus : BusKind) (core : Core) (last : Table) → core.live.copy ≡ Rw → IsAt bus (sealed (hashed core)) last → IsSealed bus core (sealed (hashed core)) last
-seal-is bus core last runs at =
-    let like = protected-like (hashed core) in
+seal-is : (bus : BusKind) (core after : Core) (last : Table) → IsStarted core after → IsAt bus (sealed after) last → IsSealed bus core (sealed after) last
+seal-is bus core after last started at =
+    let like = protected-like after in
     record {
       at = at;
-      flash_is = like.flash_is;
-      runs = like.copy_is ∙ runs;
+      flash_is = like.flash_is ∙ started.flash_is;
+      runs = like.copy_is ∙ started.runs;
       jump_off = refl;
-      locked = λ can. locks-by (hashed core) (can_lock core) can (protected 6 6 (hashed core)) (only-locks (hashed core));
+      locked = λ can. locks-by after (can_lock after) (can-lock-same core after started.flash_is started.pin_is can) (protected 6 6 after) (only-locks after);
     }
 
 -- RW has the digest that is aimed at
@@ -102,22 +126,23 @@ aimed-holds image core holds =
     ap (λ (bytes : List ℕ). bytes_eq bytes (expected image (length core.flash))) digest ∙ bytes-self (expected image (length core.flash))
 
 pub sync-kept : (bus : BusKind) (image : List ℕ) (view : HostView) (core : Core) (table : Table) (entries : List Entry) (end : SyncEnd) (last : Table) → IsOpen bus core table → view.on ≡ true → 12000000 ≤ view.spare → IsQuiet entries → IsRun table entries last →
-    HoldsAndRuns image core → Syncs bus image view entries end → IsKept bus core entries end last
+    HoldsFitting image core → Syncs bus image view entries end → IsKept bus core entries end last
 sync-kept bus image view core table entries end last from on room quiet run holds (first, rest, writes, told, parts, round, leads) =
     let size = length core.flash in
     let sized = sized-open bus core table from in
     let setting = round_setting bus 2 in
     let split = run-split table last first rest (subst (λ (xs : List Entry). IsRun table xs last) parts run) in
     let quiets = quiet-both first rest (subst (λ (xs : List Entry). IsQuiet xs) parts quiet) in
+    let can = can-start setting (hashed core) holds.none (vector-held image core.flash holds.fits holds.holds) in
     let few : 8000000 + 1500 + (plan_room size + (0 + seal_room size)) ≤ view.spare = omega (arith, room, sized.most) in
-    let kept = round-kept setting image view core table first writes told split.0 from (record { on = on; enough = few }) quiets.0 split.1 sized holds (aimed-holds image core holds.holds) round in
+    let kept = round-kept setting image view core table first writes told split.0 from (record { on = on; enough = few }) quiets.0 split.1 sized holds (aimed-holds image core holds.holds) can round in
     let told_end : end_told told (false || writes) ≡ Some (Done false) = ap (λ (result : Result (Unit {0}) Stop). end_told result (false || writes)) kept.told_is ∙ ap (λ (wrote : Bool). Some (Done wrote)) kept.wrote_is in
     let over = subst (λ (reached : Option SyncEnd). RoundLeads reached (SyncsUpTo 2 (false || writes) bus image (view_after first view) rest end) rest end) told_end leads in
     let still = subst (λ (xs : List Entry). IsRun split.0 xs last) over.0 split.2 in
-    let at = subst (λ (t : Table). IsAt bus (sealed (hashed core)) t) (sym still) kept.at in
+    let at = subst (λ (t : Table). IsAt bus (sealed can.after) t) (sym still) kept.at in
     record {
       end_is = over.1;
-      after = sealed (hashed core);
-      sealed = seal-is bus core last holds.runs at;
+      after = sealed can.after;
+      sealed = seal-is bus core can.after last (record { flash_is = (can.started).flash_is; pin_is = (can.started).pin_is; none = (can.started).none; runs = (can.started).runs }) at;
       takes = subst (λ (xs : List Entry). length (calls_of xs) ≤ kept_room size) (sym (parts ∙ ap (λ (xs : List Entry). first ++ xs) over.0 ∙ append-nil first)) (omega (arith, kept.takes));
     }

@@ -22,7 +22,7 @@ use Rattle.sync_rules.specs.declared.ending.Stop.{Stop}
 use Rattle.sync_rules.specs.Parts.{Gives, Then, When, Rests}
 use Rattle.sync_rules.specs.Replies.{given_if, aim_by, aim_of}
 use Rattle.sync_rules.specs.Requests.{version_request, flash_info_request, region_request, reboot_request}
-use Rattle.sync_rules.specs.Steps.{AsksLimits, AsksSize, AsksRegion, AsksCopy, Surveys, Hashes, Checks, Jumps, JumpLeads, Starts, Protects, Confirms, Seals, plan_of, PlansToWrite, PlansToKeep, Plans, Prepares, CarriesOut}
+use Rattle.sync_rules.specs.Steps.{AsksLimits, AsksSize, AsksRegion, AsksCopy, Surveys, Hashes, Checks, Starts, Protects, Confirms, Seals, plan_of, PlansToWrite, PlansToKeep, Plans, Prepares, CarriesOut}
 use Rattle.sync_laws.specs.Calm.{Reaches, Opens}
 use Rattle.sync_laws.proofs.Awaiting.{hashed}
 use Rattle.sync_laws.proofs.Calmly.{then-from, then-reaches, gives-reaches, when-reaches}
@@ -141,36 +141,26 @@ surveys-open setting image core none sized fits =
     (size-quick setting core none sized)
     (then-reaches setting (AsksRegion setting size) (λ found. Gives (aim_of image size)) core core core tt (Ok aim) 34 0 (region-quick setting core none sized) gives)))
 
--- RW that runs is started by no jump
-pub starts-running : (setting : Setting) (core : Core) → core.live.erase ≡ None → runs_rw core.live.copy ≡ true → Reaches setting (Starts setting) core (Ok true) core (122 + 0)
-starts-running setting core none runs =
-    then-reaches setting (AsksCopy setting) (λ told. When told (Gives (Ok true)) (Then (Jumps setting) (JumpLeads setting))) core core core (runs_rw core.live.copy) (Ok true) 122 0 (copy-quick setting core none)
-    (when-reaches setting (runs_rw core.live.copy) true (Gives (Ok true)) (Then (Jumps setting) (JumpLeads setting)) core (Ok true) core 0 runs (gives-reaches setting (Ok true) core))
-
--- what is planned, where RW has the image and runs
+-- what is planned, where RW has the image and can be started
 abbrev pub plan_room : ℕ → ℕ
-plan_room size = (9 + (34 + (46 + (34 + 0)))) + ((174 + looks_of size * 238) + ((122 + 0) + 0))
+plan_room size = (9 + (34 + (46 + (34 + 0)))) + ((174 + looks_of size * 238) + (233 + 0))
 
-pub plans-keep : (setting : Setting) (image : List ℕ) (core : Core) → core.live.erase ≡ None → IsSized core → fit_of image (length core.flash) ≡ Yes → is_aimed (aimed_at image core) core ≡ true → runs_rw core.live.copy ≡ true →
-    Opens setting (Plans setting image) core (Ok (plan_of (aimed_at image core) false)) (hashed core) (plan_room (length core.flash))
-plans-keep setting image core none sized fits aimed runs =
+pub plans-keep : (setting : Setting) (image : List ℕ) (core after : Core) → core.live.erase ≡ None → IsSized core → fit_of image (length core.flash) ≡ Yes → is_aimed (aimed_at image core) core ≡ true → Reaches setting (Starts setting) (hashed core) (Ok true) after 233 →
+    Opens setting (Plans setting image) core (Ok (plan_of (aimed_at image core) false)) after (plan_room (length core.flash))
+plans-keep setting image core after none sized fits aimed starts =
     let size = length core.flash in
     let aim = aimed_at image core in
     let free : IsFree aim core = record { none = none; geometry = refl; small = omega (arith, sized.most) } in
     let plan = plan_of aim false in
-    let keeps = then-reaches setting (Starts setting) (λ told. When told (Gives (Ok plan)) (PlansToWrite setting aim)) (hashed core) (hashed core) (hashed core) true (Ok plan) (122 + 0) 0 (starts-running setting (hashed core) none runs) (gives-reaches setting (Ok plan) (hashed core)) in
-    then-from (IsOpen setting.bus core) setting (Surveys setting image) (λ told. Then (Hashes setting told) (λ same. When same (PlansToKeep setting told) (PlansToWrite setting told))) core (hashed core) aim (Ok plan) (9 + (34 + (46 + (34 + 0)))) ((174 + looks_of size * 238) + ((122 + 0) + 0))
+    let keeps = then-reaches setting (Starts setting) (λ told. When told (Gives (Ok plan)) (PlansToWrite setting aim)) (hashed core) after after true (Ok plan) 233 0 starts (gives-reaches setting (Ok plan) after) in
+    then-from (IsOpen setting.bus core) setting (Surveys setting image) (λ told. Then (Hashes setting told) (λ same. When same (PlansToKeep setting told) (PlansToWrite setting told))) core after aim (Ok plan) (9 + (34 + (46 + (34 + 0)))) ((174 + looks_of size * 238) + (233 + 0))
     (surveys-open setting image core none sized fits)
-    (then-reaches setting (Hashes setting aim) (λ same. When same (PlansToKeep setting aim) (PlansToWrite setting aim)) core (hashed core) (hashed core) (is_aimed aim core) (Ok plan) (174 + looks_of size * 238) ((122 + 0) + 0)
+    (then-reaches setting (Hashes setting aim) (λ same. When same (PlansToKeep setting aim) (PlansToWrite setting aim)) core (hashed core) after (is_aimed aim core) (Ok plan) (174 + looks_of size * 238) (233 + 0)
     (hashes-reach setting aim core free sized.least sized.most)
-    (when-reaches setting (is_aimed aim core) true (PlansToKeep setting aim) (PlansToWrite setting aim) (hashed core) (Ok plan) (hashed core) ((122 + 0) + 0) aimed keeps))
+    (when-reaches setting (is_aimed aim core) true (PlansToKeep setting aim) (PlansToWrite setting aim) (hashed core) (Ok plan) after (233 + 0) aimed keeps))
 
 -- such a plan is carried out by the last steps alone
-pub keeps-out : (setting : Setting) (image : List ℕ) (core : Core) → core.live.erase ≡ None → IsSized core → is_aimed (aimed_at image core) core ≡ true → runs_rw core.live.copy ≡ true →
-    Reaches setting (CarriesOut setting image (plan_of (aimed_at image core) false)) (hashed core) (Ok tt) (sealed (hashed core)) (0 + seal_room (length core.flash))
-keeps-out setting image core none sized aimed runs =
-    let aim = aimed_at image core in
-    let plan = plan_of aim false in
-    let free : IsFree aim (hashed core) = record { none = none; geometry = refl; small = omega (arith, sized.most) } in
-    let sized_too : IsSized (hashed core) = record { stated = sized.stated; least = sized.least; most = sized.most } in
-    then-reaches setting (Prepares setting image plan) (λ ready. Seals setting aim) (hashed core) (hashed core) (sealed (hashed core)) tt (Ok tt) 0 (seal_room (length core.flash)) (gives-reaches setting (Ok tt) (hashed core)) (seals-reach setting aim (hashed core) free sized_too aimed runs)
+pub keeps-out : (setting : Setting) (image : List ℕ) (aim : Aim) (core : Core) → IsFree aim core → IsSized core → is_aimed aim core ≡ true → runs_rw core.live.copy ≡ true →
+    Reaches setting (CarriesOut setting image (plan_of aim false)) core (Ok tt) (sealed core) (0 + seal_room (length core.flash))
+keeps-out setting image aim core free sized aimed runs =
+    then-reaches setting (Prepares setting image (plan_of aim false)) (λ ready. Seals setting aim) core core (sealed core) tt (Ok tt) 0 (seal_room (length core.flash)) (gives-reaches setting (Ok tt) core) (seals-reach setting aim core free sized aimed runs)

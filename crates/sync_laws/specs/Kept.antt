@@ -13,11 +13,10 @@ use Rattle.command_laws.specs.Standing.{IsAt}
 use Rattle.sync_rules.specs.declared.ending.SyncEnd.{SyncEnd}
 use Rattle.sync_rules.specs.declared.ending.SyncEnd.TheVariants.{Done}
 
--- RW has the image, which fits, and runs, and no erase is pending
-pub record HoldsAndRuns (image : List ℕ) (core : Core) : Type 0 where
+-- RW has the image, which fits, and no erase is pending
+pub record HoldsFitting (image : List ℕ) (core : Core) : Type 0 where
   pub fits : fit_of image (length core.flash) ≡ Yes
   pub holds : part (rw_range (length core.flash)) core.flash ≡ padded image (length core.flash)
-  pub runs : core.live.copy ≡ Rw
   pub none : core.live.erase ≡ None
 
 -- the controller behind it: its flash as it was, RW runs, no jump is left, and where locks can be set they are
@@ -28,9 +27,9 @@ pub record IsSealed (bus : BusKind) (core after : Core) (last : Table) : Type 0 
   pub jump_off : after.live.jump_off ≡ true
   pub locked : can_lock core ≡ true → (after.live.ro_now ≡ true) × (after.live.all_now ≡ true)
 
--- how many calls it takes at most: two hashes, and seven other commands
+-- how many calls it takes at most: two hashes, at most nine other commands, and a restart
 abbrev pub kept_room : ℕ → ℕ
-kept_room size = 781 + ((rw_range size).size / 65536 + 1) * 476
+kept_room size = 892 + ((rw_range size).size / 65536 + 1) * 476
 
 -- it is done, and nothing was written
 pub record IsKept (bus : BusKind) (core : Core) (entries : List Entry) (end : SyncEnd) (last : Table) : Type 0 where
