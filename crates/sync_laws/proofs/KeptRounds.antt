@@ -1,5 +1,5 @@
 -- The one round of a sync that finds nothing to write.
-use Rattle.std.proofs.Common.{◌≡◌, refl, sym, ap, ◌∙◌, subst, ℕ, ◌+◌, ◌≤◌, ◌||◌, Bool, true, false, if◌then◌else◌, List, ◌++◌, length, append-nil, Option, Some, Result, Ok, arith, ◌^◌, ◌<◌, ◌&&◌, []}
+use Rattle.std.proofs.Common.{◌≡◌, refl, sym, ap, ◌∙◌, subst, ℕ, ◌+◌, ◌≤◌, ◌||◌, Bool, true, false, if◌then◌else◌, List, ◌++◌, length, append-nil, Option, Some, Result, Ok, arith, ◌^◌, ◌<◌, ◌&&◌, [], None}
 use Rattle.std.specs.Str.{bytes_eq}
 use Rattle.std.proofs.lemmas.Bool.Decides.{eqb_tells}
 use Rattle.std.proofs.lemmas.Slice.Eq.{bytes_eq-Decides}
@@ -12,7 +12,8 @@ use Rattle.ec_model.specs.Image.{expected, padded}
 use Rattle.ec_model.specs.ProtectRow.{can_lock, protected}
 use Rattle.ec_model.specs.Ranges.{rw_range, part, is_flash_size}
 use Rattle.ec_model.specs.Run.{IsRun}
-use Rattle.ec_model.specs.Table.{Table, Core}
+use Rattle.ec_model.specs.declared.live.Live.{Live}
+use Rattle.ec_model.specs.Table.{Table, Core, IsErasable}
 use Rattle.ec_model.proofs.RunLaws.{run-split}
 use Rattle.command_laws.specs.Standing.{IsQuiet, IsOpen, IsAt, HasRoom}
 use Rattle.command_laws.proofs.Answering.{open-sound, sound-valid}
@@ -21,14 +22,18 @@ use Rattle.ec_model.specs.Stored.{stored}
 use Rattle.sync_laws.specs.Calm.{Reaches}
 use Rattle.sync_laws.proofs.Hashed.{IsFree}
 use Rattle.sync_laws.proofs.Jumping.{IsStarted, CanStart, can-start, vector-held}
+use Rattle.ec_model.specs.declared.live.EraseJob.{EraseJob}
+use Rattle.command_laws.specs.Restarting.{erased}
+use Rattle.ec_model.proofs.ValidRows.{IsCoreValid}
+use Rattle.sync_laws.proofs.Pending.{rids, erased-valid}
 use Rattle.sync_rules.specs.declared.ending.Plan.{Plan}
 use Rattle.sync_rules.specs.declared.ending.Stop.{Stop}
 use Rattle.sync_rules.specs.declared.ending.SyncEnd.{SyncEnd}
 use Rattle.sync_rules.specs.declared.ending.SyncEnd.TheVariants.{Done}
 use Rattle.sync_rules.specs.Parts.{Leads}
-use Rattle.sync_rules.specs.Steps.{CarriesOut, plan_of}
+use Rattle.sync_rules.specs.Steps.{CarriesOut, plan_of, AsksLimits}
 use Rattle.sync_rules.specs.Syncing.{began_writing, SyncRound, end_told, RoundLeads, round_setting, SyncsUpTo, Syncs}
-use Rattle.sync_laws.specs.Kept.{HoldsFitting, IsSealed, IsKept, kept_room}
+use Rattle.sync_laws.specs.Kept.{HoldsFitting, IsSealed, IsKept, kept_room, pending_room}
 use Rattle.sync_laws.proofs.Awaiting.{rw_digest, hashed}
 use Rattle.sync_laws.proofs.Calmly.{behind-room}
 use Rattle.sync_laws.proofs.KeptSteps.{IsSized, protected-like, aimed_at, sealed, seal_room, plan_room, plans-keep, keeps-out}
@@ -45,38 +50,38 @@ sized-like core after same sized = record {
 }
 
 -- what a round came to
-record IsRoundKept (bus : BusKind) (core after : Core) (room : ℕ) (entries : List Entry) (wrote : Bool) (told : Result (Unit {0}) Stop) (last : Table) : Type 0 where
+record IsRoundKept (bus : BusKind) (after : Core) (room : ℕ) (entries : List Entry) (wrote : Bool) (told : Result (Unit {0}) Stop) (last : Table) : Type 0 where
   pub told_is : told ≡ Ok tt
   pub wrote_is : wrote ≡ false
   pub at : IsAt bus (sealed after) last
   pub takes : length (calls_of entries) ≤ room
 
 -- the room of a round
-abbrev round_kept_room : ℕ → ℕ
-round_kept_room size = plan_room size + (0 + seal_room size)
+abbrev round_kept_room : ℕ → ℕ → ℕ
+round_kept_room pending size = plan_room pending size + (0 + seal_room size)
 
-round-kept : (setting : Setting) (image : List ℕ) (view : HostView) (core : Core) (table : Table) (entries : List Entry) (wrote : Bool) (told : Result (Unit {0}) Stop) (last : Table) → IsOpen setting.bus core table →
-    HasRoom setting view (round_kept_room (length core.flash)) → IsQuiet entries → IsRun table entries last → IsSized core → HoldsFitting image core → is_aimed (aimed_at image core) core ≡ true → (can : CanStart setting (hashed core)) →
-    SyncRound setting image view entries wrote told → IsRoundKept setting.bus core can.after (round_kept_room (length core.flash)) entries wrote told last
-round-kept setting image view core table entries wrote told last from has quiet run sized holds aimed can round =
-    let size = length core.flash in
-    let aim = aimed_at image core in
+round-kept : (setting : Setting) (image : List ℕ) (view : HostView) (core now : Core) (pending : ℕ) (table : Table) (entries : List Entry) (wrote : Bool) (told : Result (Unit {0}) Stop) (last : Table) → IsOpen setting.bus core table →
+    HasRoom setting view (round_kept_room pending (length now.flash)) → IsQuiet entries → IsRun table entries last → Reaches setting (AsksLimits setting) core (Ok tt) now (34 + pending) → now.live.erase ≡ None → IsSized now → HoldsFitting image now →
+    is_aimed (aimed_at image now) now ≡ true → (can : CanStart setting (hashed now)) → SyncRound setting image view entries wrote told → IsRoundKept setting.bus can.after (round_kept_room pending (length now.flash)) entries wrote told last
+round-kept setting image view core now pending table entries wrote told last from has quiet run limits none sized holds aimed can round =
+    let size = length now.flash in
+    let aim = aimed_at image now in
     let after = can.after in
-    let same : after.flash ≡ core.flash = (can.started).flash_is in
+    let same : after.flash ≡ now.flash = (can.started).flash_is in
     let split = run-split table last round.planning round.rest (subst (λ (xs : List Entry). IsRun table xs last) round.parts run) in
     let quiets = quiet-both round.planning round.rest (subst (λ (xs : List Entry). IsQuiet xs) round.parts quiet) in
-    let plans = plans-keep setting image core after holds.none sized holds.fits aimed can.starts view table round.planning round.planned split.0 from (record { on = has.on; enough = omega (arith, has.enough) }) quiets.0 split.1 round.plans in
+    let plans = plans-keep setting image core now after pending limits none sized holds.fits aimed can.starts view table round.planning round.planned split.0 from (record { on = has.on; enough = omega (arith, has.enough) }) quiets.0 split.1 round.plans in
     let leads = subst (λ (planned : Result Plan Stop). Leads planned (CarriesOut setting image) (view_after round.planning view) round.rest told) plans.told_is round.leads in
-    let room = behind-room setting view round.planning (plan_room size) (0 + seal_room size) quiets.0 plans.takes has in
+    let room = behind-room setting view round.planning (plan_room pending size) (0 + seal_room size) quiets.0 plans.takes has in
     let free : IsFree aim after = record { none = (can.started).none; geometry = sym (ap (λ (flash : List ℕ). length flash) same); small = subst (λ (flash : List ℕ). length flash < 2 ^ 32) (sym same) (omega (arith, sized.most)) } in
     let aimed_after : is_aimed aim after ≡ true = ap (λ (flash : List ℕ). bytes_eq (sha256 ([] ++ part (rw_range (length flash)) flash)) aim.digest) same ∙ aimed in
-    let steps = subst (λ (flash : List ℕ). Reaches setting (CarriesOut setting image (plan_of aim false)) after (Ok tt) (sealed after) (0 + seal_room (length flash))) same (keeps-out setting image aim after free (sized-like core after same sized) aimed_after (ap runs_rw (can.started).runs)) in
+    let steps = subst (λ (flash : List ℕ). Reaches setting (CarriesOut setting image (plan_of aim false)) after (Ok tt) (sealed after) (0 + seal_room (length flash))) same (keeps-out setting image aim after free (sized-like now after same sized) aimed_after (ap runs_rw (can.started).runs)) in
     let out = steps (view_after round.planning view) split.0 round.rest told last plans.at room quiets.1 split.2 leads in
     record {
       told_is = out.told_is;
       wrote_is = round.wrote_is ∙ ap began_writing plans.told_is;
       at = out.at;
-      takes = subst (λ (xs : List Entry). length (calls_of xs) ≤ round_kept_room size) (sym round.parts) (omega (arith, calls-both round.planning round.rest, plans.takes, out.takes));
+      takes = subst (λ (xs : List Entry). length (calls_of xs) ≤ round_kept_room pending size) (sym round.parts) (omega (arith, calls-both round.planning round.rest, plans.takes, out.takes));
     }
 
 or-true : (test : Bool) → (test || true) ≡ true
@@ -91,9 +96,8 @@ bytes-self bytes = (bytes_eq-Decides bytes bytes).1 refl
 sized-by : (size : ℕ) → is_flash_size size ≡ true → (65536 ≤ size) × (size ≤ 4194304)
 sized-by size is = (grind (arith, eqb_tells), grind (arith, eqb_tells))
 
-sized-open : (bus : BusKind) (core : Core) (table : Table) → IsOpen bus core table → IsSized core
-sized-open bus core table from =
-    let valid = sound-valid bus core (open-sound bus core table from) in
+sized-core : (core : Core) → IsCoreValid core → IsSized core
+sized-core core valid =
     let bounds = sized-by (length core.flash) valid.size in
     record { stated = valid.size; least = bounds.0; most = bounds.1 }
 
@@ -125,17 +129,28 @@ aimed-holds image core holds =
     let digest : rw_digest core ≡ expected image (length core.flash) = ap sha256 holds in
     ap (λ (bytes : List ℕ). bytes_eq bytes (expected image (length core.flash))) digest ∙ bytes-self (expected image (length core.flash))
 
+-- the calls of waiting for an erase
+pending-few : (size : ℕ) (live : Live) (erase : Option EraseJob) → size ≤ 4194304 → IsErasable size live erase → pending_room erase ≤ 27670
+pending-few size live None most erasable = omega arith
+pending-few size live (Some job) most erasable = omega (arith, erasable.1, most)
+
 pub sync-kept : (bus : BusKind) (image : List ℕ) (view : HostView) (core : Core) (table : Table) (entries : List Entry) (end : SyncEnd) (last : Table) → IsOpen bus core table → view.on ≡ true → 12000000 ≤ view.spare → IsQuiet entries → IsRun table entries last →
-    HoldsFitting image core → Syncs bus image view entries end → IsKept bus core entries end last
+    HoldsFitting image (erased core) → Syncs bus image view entries end → IsKept bus core entries end last
 sync-kept bus image view core table entries end last from on room quiet run holds (first, rest, writes, told, parts, round, leads) =
-    let size = length core.flash in
-    let sized = sized-open bus core table from in
+    let now = erased core in
+    let size = length now.flash in
+    let pending = pending_room core.live.erase in
     let setting = round_setting bus 2 in
+    let sound = open-sound bus core table from in
+    let valid = sound-valid bus core sound in
+    let rid = rids setting core sound in
+    let sized = sized-core now (erased-valid core valid) in
+    let before = sized-core core valid in
     let split = run-split table last first rest (subst (λ (xs : List Entry). IsRun table xs last) parts run) in
     let quiets = quiet-both first rest (subst (λ (xs : List Entry). IsQuiet xs) parts quiet) in
-    let can = can-start setting (hashed core) holds.none (vector-held image core.flash holds.fits holds.holds) in
-    let few : 8000000 + 1500 + (plan_room size + (0 + seal_room size)) ≤ view.spare = omega (arith, room, sized.most) in
-    let kept = round-kept setting image view core table first writes told split.0 from (record { on = on; enough = few }) quiets.0 split.1 sized holds (aimed-holds image core holds.holds) can round in
+    let can = can-start setting (hashed now) rid.none (vector-held image now.flash holds.fits holds.holds) in
+    let few : 8000000 + 1500 + round_kept_room pending size ≤ view.spare = omega (arith, room, sized.most, pending-few (length core.flash) core.live core.live.erase before.most valid.erase) in
+    let kept = round-kept setting image view core now pending table first writes told split.0 from (record { on = on; enough = few }) quiets.0 split.1 rid.reaches rid.none sized holds (aimed-holds image now holds.holds) can round in
     let told_end : end_told told (false || writes) ≡ Some (Done false) = ap (λ (result : Result (Unit {0}) Stop). end_told result (false || writes)) kept.told_is ∙ ap (λ (wrote : Bool). Some (Done wrote)) kept.wrote_is in
     let over = subst (λ (reached : Option SyncEnd). RoundLeads reached (SyncsUpTo 2 (false || writes) bus image (view_after first view) rest end) rest end) told_end leads in
     let still = subst (λ (xs : List Entry). IsRun split.0 xs last) over.0 split.2 in
@@ -143,6 +158,6 @@ sync-kept bus image view core table entries end last from on room quiet run hold
     record {
       end_is = over.1;
       after = sealed can.after;
-      sealed = seal-is bus core can.after last (record { flash_is = (can.started).flash_is; pin_is = (can.started).pin_is; none = (can.started).none; runs = (can.started).runs }) at;
-      takes = subst (λ (xs : List Entry). length (calls_of xs) ≤ kept_room size) (sym (parts ∙ ap (λ (xs : List Entry). first ++ xs) over.0 ∙ append-nil first)) (omega (arith, kept.takes));
+      sealed = seal-is bus now can.after last (record { flash_is = (can.started).flash_is; pin_is = (can.started).pin_is; none = (can.started).none; runs = (can.started).runs }) at;
+      takes = subst (λ (xs : List Entry). length (calls_of xs) ≤ kept_room size + pending) (sym (parts ∙ ap (λ (xs : List Entry). first ++ xs) over.0 ∙ append-nil first)) (omega (arith, kept.takes));
     }

@@ -104,7 +104,7 @@ seals-reach setting aim core free sized aimed runs =
     (then-reaches setting (Checks setting aim) (λ checked. Then (AsksCopy setting) (λ told. Gives (given_if told tt))) off (hashed off) (hashed off) tt (Ok tt) (174 + looks_of (length core.flash) * 238 + 0) (122 + 0) check last))
 
 -- the questions of the survey, each with a bound on its calls
-limits-quick : (setting : Setting) (core : Core) → core.live.erase ≡ None → Reaches setting (AsksLimits setting) core (Ok tt) core 34
+pub limits-quick : (setting : Setting) (core : Core) → core.live.erase ≡ None → Reaches setting (AsksLimits setting) core (Ok tt) core 34
 limits-quick setting core none =
     let body = proto_info_say 8 (packet_limit setting.bus) (packet_limit setting.bus) 1 in
     let room = success-room setting.bus protocol_request core core body none (limits-row core (packet_limit setting.bus)) in
@@ -127,37 +127,38 @@ aimed_at image core = record { geometry = length core.flash; digest = expected i
 aim-is : (image : List ℕ) (size : ℕ) → fit_of image size ≡ Yes → aim_of image size ≡ Ok (record { geometry = size; digest = expected image size })
 aim-is image size fits = ap (λ (fit : Fit). aim_by fit image size) fits
 
--- the survey, whatever the bus was doing
-pub surveys-open : (setting : Setting) (image : List ℕ) (core : Core) → core.live.erase ≡ None → IsSized core → fit_of image (length core.flash) ≡ Yes → Opens setting (Surveys setting image) core (Ok (aimed_at image core)) core (9 + (34 + (46 + (34 + 0))))
-surveys-open setting image core none sized fits =
-    let size = length core.flash in
-    let aim = aimed_at image core in
-    let gives = subst (λ (given : Result Aim Stop). Reaches setting (Gives (aim_of image size)) core given core 0) (aim-is image size fits) (gives-reaches setting (aim_of image size) core) in
-    then-from (IsOpen setting.bus core) setting (Rests setting) (λ rested. Then (AsksLimits setting) (λ agreed. Then (AsksSize setting) (λ told. Then (AsksRegion setting told) (λ found. Gives (aim_of image told))))) core core tt (Ok aim) 9 (34 + (46 + (34 + 0)))
+-- the survey, whatever the bus was doing; `now` is the controller once no erase is pending
+pub surveys-open : (setting : Setting) (image : List ℕ) (core now : Core) (pending : ℕ) → Reaches setting (AsksLimits setting) core (Ok tt) now (34 + pending) → now.live.erase ≡ None → IsSized now → fit_of image (length now.flash) ≡ Yes →
+    Opens setting (Surveys setting image) core (Ok (aimed_at image now)) now (9 + ((34 + pending) + (46 + (34 + 0))))
+surveys-open setting image core now pending limits none sized fits =
+    let size = length now.flash in
+    let aim = aimed_at image now in
+    let gives = subst (λ (given : Result Aim Stop). Reaches setting (Gives (aim_of image size)) now given now 0) (aim-is image size fits) (gives-reaches setting (aim_of image size) now) in
+    then-from (IsOpen setting.bus core) setting (Rests setting) (λ rested. Then (AsksLimits setting) (λ agreed. Then (AsksSize setting) (λ told. Then (AsksRegion setting told) (λ found. Gives (aim_of image told))))) core now tt (Ok aim) 9 ((34 + pending) + (46 + (34 + 0)))
     (rests-open setting core)
-    (then-reaches setting (AsksLimits setting) (λ agreed. Then (AsksSize setting) (λ told. Then (AsksRegion setting told) (λ found. Gives (aim_of image told)))) core core core tt (Ok aim) 34 (46 + (34 + 0))
-    (limits-quick setting core none)
-    (then-reaches setting (AsksSize setting) (λ told. Then (AsksRegion setting told) (λ found. Gives (aim_of image told))) core core core size (Ok aim) 46 (34 + 0)
-    (size-quick setting core none sized)
-    (then-reaches setting (AsksRegion setting size) (λ found. Gives (aim_of image size)) core core core tt (Ok aim) 34 0 (region-quick setting core none sized) gives)))
+    (then-reaches setting (AsksLimits setting) (λ agreed. Then (AsksSize setting) (λ told. Then (AsksRegion setting told) (λ found. Gives (aim_of image told)))) core now now tt (Ok aim) (34 + pending) (46 + (34 + 0))
+    limits
+    (then-reaches setting (AsksSize setting) (λ told. Then (AsksRegion setting told) (λ found. Gives (aim_of image told))) now now now size (Ok aim) 46 (34 + 0)
+    (size-quick setting now none sized)
+    (then-reaches setting (AsksRegion setting size) (λ found. Gives (aim_of image size)) now now now tt (Ok aim) 34 0 (region-quick setting now none sized) gives)))
 
 -- what is planned, where RW has the image and can be started
-abbrev pub plan_room : ℕ → ℕ
-plan_room size = (9 + (34 + (46 + (34 + 0)))) + ((174 + looks_of size * 238) + (233 + 0))
+abbrev pub plan_room : ℕ → ℕ → ℕ
+plan_room pending size = (9 + ((34 + pending) + (46 + (34 + 0)))) + ((174 + looks_of size * 238) + (233 + 0))
 
-pub plans-keep : (setting : Setting) (image : List ℕ) (core after : Core) → core.live.erase ≡ None → IsSized core → fit_of image (length core.flash) ≡ Yes → is_aimed (aimed_at image core) core ≡ true → Reaches setting (Starts setting) (hashed core) (Ok true) after 233 →
-    Opens setting (Plans setting image) core (Ok (plan_of (aimed_at image core) false)) after (plan_room (length core.flash))
-plans-keep setting image core after none sized fits aimed starts =
-    let size = length core.flash in
-    let aim = aimed_at image core in
-    let free : IsFree aim core = record { none = none; geometry = refl; small = omega (arith, sized.most) } in
+pub plans-keep : (setting : Setting) (image : List ℕ) (core now after : Core) (pending : ℕ) → Reaches setting (AsksLimits setting) core (Ok tt) now (34 + pending) → now.live.erase ≡ None → IsSized now → fit_of image (length now.flash) ≡ Yes → is_aimed (aimed_at image now) now ≡ true →
+    Reaches setting (Starts setting) (hashed now) (Ok true) after 233 → Opens setting (Plans setting image) core (Ok (plan_of (aimed_at image now) false)) after (plan_room pending (length now.flash))
+plans-keep setting image core now after pending limits none sized fits aimed starts =
+    let size = length now.flash in
+    let aim = aimed_at image now in
+    let free : IsFree aim now = record { none = none; geometry = refl; small = omega (arith, sized.most) } in
     let plan = plan_of aim false in
-    let keeps = then-reaches setting (Starts setting) (λ told. When told (Gives (Ok plan)) (PlansToWrite setting aim)) (hashed core) after after true (Ok plan) 233 0 starts (gives-reaches setting (Ok plan) after) in
-    then-from (IsOpen setting.bus core) setting (Surveys setting image) (λ told. Then (Hashes setting told) (λ same. When same (PlansToKeep setting told) (PlansToWrite setting told))) core after aim (Ok plan) (9 + (34 + (46 + (34 + 0)))) ((174 + looks_of size * 238) + (233 + 0))
-    (surveys-open setting image core none sized fits)
-    (then-reaches setting (Hashes setting aim) (λ same. When same (PlansToKeep setting aim) (PlansToWrite setting aim)) core (hashed core) after (is_aimed aim core) (Ok plan) (174 + looks_of size * 238) (233 + 0)
-    (hashes-reach setting aim core free sized.least sized.most)
-    (when-reaches setting (is_aimed aim core) true (PlansToKeep setting aim) (PlansToWrite setting aim) (hashed core) (Ok plan) after (233 + 0) aimed keeps))
+    let keeps = then-reaches setting (Starts setting) (λ told. When told (Gives (Ok plan)) (PlansToWrite setting aim)) (hashed now) after after true (Ok plan) 233 0 starts (gives-reaches setting (Ok plan) after) in
+    then-from (IsOpen setting.bus core) setting (Surveys setting image) (λ told. Then (Hashes setting told) (λ same. When same (PlansToKeep setting told) (PlansToWrite setting told))) now after aim (Ok plan) (9 + ((34 + pending) + (46 + (34 + 0)))) ((174 + looks_of size * 238) + (233 + 0))
+    (surveys-open setting image core now pending limits none sized fits)
+    (then-reaches setting (Hashes setting aim) (λ same. When same (PlansToKeep setting aim) (PlansToWrite setting aim)) now (hashed now) after (is_aimed aim now) (Ok plan) (174 + looks_of size * 238) (233 + 0)
+    (hashes-reach setting aim now free sized.least sized.most)
+    (when-reaches setting (is_aimed aim now) true (PlansToKeep setting aim) (PlansToWrite setting aim) (hashed now) (Ok plan) after (233 + 0) aimed keeps))
 
 -- such a plan is carried out by the last steps alone
 pub keeps-out : (setting : Setting) (image : List ℕ) (aim : Aim) (core : Core) → IsFree aim core → IsSized core → is_aimed aim core ≡ true → runs_rw core.live.copy ≡ true →

@@ -13,3 +13,4 @@ pub mod Sealing
 pub mod KeptSteps
 pub mod KeptRounds
 pub mod Jumping
+pub mod Pending

@@ -63,7 +63,7 @@ success-reaches setting request want told core after body given proper none is g
     (commands-reach setting request want (on_success told) core after 0 body proper (succeeds (packet_limit setting.bus) request core after body none is))
 
 -- the limits of each bus
-limits-are : (bus : BusKind) → limits_told (packet_limit bus) (proto_info_say 8 (packet_limit bus) (packet_limit bus) 1) ≡ Ok tt
+pub limits-are : (bus : BusKind) → limits_told (packet_limit bus) (proto_info_say 8 (packet_limit bus) (packet_limit bus) 1) ≡ Ok tt
 limits-are Lpc = refl
 limits-are I2c = refl
 limits-are Spi = refl
