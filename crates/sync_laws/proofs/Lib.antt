@@ -14,3 +14,4 @@ pub mod KeptSteps
 pub mod KeptRounds
 pub mod Jumping
 pub mod Pending
+pub mod Freeing

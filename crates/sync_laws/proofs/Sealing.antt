@@ -43,7 +43,7 @@ any-room I2c sent heard = omega arith
 any-room Spi sent heard = omega arith
 
 -- stored bits are the same as themselves
-same-self : (bits : AtBoot) → same_bits bits bits ≡ true
+pub same-self : (bits : AtBoot) → same_bits bits bits ≡ true
 same-self bits = by bits.ro bits.all where
   by : (ro all : Bool) → same_bits (record { ro = ro; all = all }) (record { ro = ro; all = all }) ≡ true
   by true true = refl
@@ -63,7 +63,7 @@ bit-few : (mask : ℕ) (test : Bool) → bit_if mask test ≤ mask
 bit-few mask true = omega arith
 bit-few mask false = omega arith
 
-flags-small : (core : Core) → (protect_view core).flags < 2 ^ 32
+pub flags-small : (core : Core) → (protect_view core).flags < 2 ^ 32
 flags-small core = omega (
   arith,
   bit-few 0x01 (stored core.flash).ro,
@@ -74,7 +74,7 @@ flags-small core = omega (
   bit-few 0x40 (stored core.flash).all,
 )
 
-flags-are : (flags valid writable : ℕ) → flags < 2 ^ 32 → flags_told (flash_protect_say flags valid writable) ≡ Ok flags
+pub flags-are : (flags valid writable : ℕ) → flags < 2 ^ 32 → flags_told (flash_protect_say flags valid writable) ≡ Ok flags
 flags-are flags valid writable small = let read : u32_at 0 (flash_protect_say flags valid writable) ≡ flags = omega (arith, small) in rw read refl
 
 -- the controller with its locks
