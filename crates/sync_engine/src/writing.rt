@@ -19,8 +19,9 @@ const WRITE_HEAD: u32 = 16;
 // The most bytes that one FLASH_WRITE carries on any bus.
 const LONGEST_PIECE: usize = 528;
 
-// An erased byte.
+// An erased byte, and as many as a piece has at most.
 const BLANK: u8 = 0xFF;
+const BLANK_PIECE: [u8; LONGEST_PIECE] = [BLANK; LONGEST_PIECE];
 
 // What a piece has of the image itself: at most `most` bytes behind `place`.
 fn image_part(image: &[u8], most: usize, place: usize) -> &[u8]
@@ -43,10 +44,9 @@ fn cut_piece(image: &[u8], geometry: Geometry, most: u32, place: u32, out: &mut 
     let (_, size) = geometry.range(Region::Active);
     let length = most.min(size - place) as usize;
     let part = image_part(image, most as usize, place as usize);
-    let blank = [BLANK; LONGEST_PIECE];
     out.clear();
     out.extend(part);
-    out.extend(&blank[..length - part.len()]);
+    out.extend(&BLANK_PIECE[..length - part.len()]);
 }
 
 // Whether all bytes are as an erase leaves them.
