@@ -21,6 +21,7 @@ const LONGEST_PIECE: usize = 528;
 
 // An erased byte, and as many as a piece has at most.
 const BLANK: u8 = 0xFF;
+
 const BLANK_PIECE: [u8; LONGEST_PIECE] = [BLANK; LONGEST_PIECE];
 
 // What a piece has of the image itself: at most `most` bytes behind `place`.
