@@ -15,3 +15,6 @@ pub mod KeptRounds
 pub mod Jumping
 pub mod Pending
 pub mod Freeing
+pub mod Clearing
+pub mod Writable
+pub mod Erasing

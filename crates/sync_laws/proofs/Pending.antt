@@ -44,7 +44,7 @@ use Rattle.sync_laws.proofs.Sealing.{any-room}
 use Rattle.sync_laws.proofs.Surveying.{is-free, limits-are}
 
 -- a turn of a poll is 27 calls at most
-turns-few : (bus : BusKind) (left : ℕ) → left * turn_room bus ≤ left * 27
+pub turns-few : (bus : BusKind) (left : ℕ) → left * turn_room bus ≤ left * 27
 turns-few Lpc left = omega arith
 turns-few I2c left = omega arith
 turns-few Spi left = omega arith

@@ -37,7 +37,7 @@ large I2c = omega arith
 large Spi = omega arith
 
 -- a short request fits any bus
-fits-any : (bus : BusKind) (number version : ℕ) (body : List ℕ) → number < 65536 → length body ≤ 120 → is_cold (Ok (record { command = number; version = version; body = body })) ≡ false →
+pub fits-any : (bus : BusKind) (number version : ℕ) (body : List ℕ) → number < 65536 → length body ≤ 120 → is_cold (Ok (record { command = number; version = version; body = body })) ≡ false →
     Fits bus (record { command = number; version = version; body = body })
 fits-any bus number version body small short other = record {
   plain = plain-spelled number version body small (omega (arith, short)) other;
@@ -45,7 +45,7 @@ fits-any bus number version body small short other = record {
 }
 
 -- an answer that is a success has so many bytes
-abbrev HasLength : ℕ → Outcome → Type 0
+abbrev pub HasLength : ℕ → Outcome → Type 0
 HasLength want outcome = (after : Core) (body : List ℕ) → outcome ≡ Answered after 0 body → length body ≡ want
 
 told-length : (want : ℕ) (core : Core) (bytes : List ℕ) → length bytes ≡ want → HasLength want (Answered core 0 bytes)
@@ -56,7 +56,7 @@ pending-by : (want : ℕ) (core : Core) (outcome : Outcome) (pending : Bool) →
 pending-by want core outcome true long after body same = absurd (let never : ◌≡◌ {A = ℕ} 16 0 = cc in omega (arith, never))
 pending-by want core outcome false long after body same = long after body same
 
-wanted-of : (bus : BusKind) (request : RequestView) (want : ℕ) (rows : Core → ℕ → Outcome) → ((core : Core) (limit : ℕ) → handled core limit (packet_of request) ≡ unless_pending core (rows core limit)) →
+pub wanted-of : (bus : BusKind) (request : RequestView) (want : ℕ) (rows : Core → ℕ → Outcome) → ((core : Core) (limit : ℕ) → handled core limit (packet_of request) ≡ unless_pending core (rows core limit)) →
     ((core : Core) (limit : ℕ) → HasLength want (rows core limit)) → IsWanted bus request want
 wanted-of bus request want rows is long core after state body valid kind comes =
     pending-by want core (rows core (packet_limit bus)) (is_some core.live.erase) (long core (packet_limit bus)) after body (sym (is core (packet_limit bus)) ∙ comes)
