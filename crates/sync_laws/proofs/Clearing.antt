@@ -70,15 +70,15 @@ none-behind count rest long = by (drop count rest) (length-drop count rest ∙ o
   by [] none = refl
   by (x ∷ xs) none = absurd (omega (arith, none))
 
--- the controller behind an erase: the flash is this, and nothing is pending
-pub record IsCleared (core : Core) (flash : List ℕ) (after : Core) : Type 0 where
+-- the flash becomes this; nothing is pending, and the pin, the image that runs, the locks and the jumps stay
+pub record Becomes (core : Core) (flash : List ℕ) (after : Core) : Type 0 where
   pub stays : Stays core after
   pub none : after.live.erase ≡ None
   pub flash_is : after.flash ≡ flash
 
 -- the last block, and any before it
 last-block : (count : ℕ) (core : Core) (job : EraseJob) (front rest : List ℕ) → count ≡ block_size → core.live.erase ≡ Some job → job.left ≡ 1 → length front ≡ job.next * count → length rest ≡ count → core.flash ≡ front ++ rest →
-    IsCleared core (front ++ replicate count 0xFF) (ticked core)
+    Becomes core (front ++ replicate count 0xFF) (ticked core)
 last-block count core job front rest size pending last at long is =
     let same = ticked-job core job pending in
     record {
@@ -89,10 +89,10 @@ last-block count core job front rest size pending last at long is =
 
 -- so many blocks, which end the flash
 blocks-cleared : (more count : ℕ) (core : Core) (job : EraseJob) (front rest : List ℕ) → count ≡ block_size → core.live.erase ≡ Some job → job.left ≡ suc more → length front ≡ job.next * count → length rest ≡ suc more * count → core.flash ≡ front ++ rest →
-    IsCleared core (front ++ replicate (suc more * count) 0xFF) (after_ticks (suc more) core)
+    Becomes core (front ++ replicate (suc more * count) 0xFF) (after_ticks (suc more) core)
 blocks-cleared zero count core job front rest size pending left at long is =
     let one : 1 * count ≡ count = omega arith in
-    subst (λ (n : ℕ). IsCleared core (front ++ replicate n 0xFF) (ticked core)) (sym one) (last-block count core job front rest size pending left at (long ∙ one) is)
+    subst (λ (n : ℕ). Becomes core (front ++ replicate n 0xFF) (ticked core)) (sym one) (last-block count core job front rest size pending left at (long ∙ one) is)
 blocks-cleared (suc more) count core job front rest size pending left at long is =
     let same = ticked-job core job pending in
     let next : EraseJob = record { next = job.next + 1; left = job.left - 1 } in
@@ -112,7 +112,7 @@ blocks-cleared (suc more) count core job front rest size pending left at long is
 
 -- an erase of the flash's end
 pub cleared : (core : Core) (job : EraseJob) (front rest : List ℕ) (left : ℕ) → core.live.erase ≡ Some job → job.left ≡ left → 1 ≤ left → length front ≡ job.next * 4096 → length rest ≡ left * 4096 → core.flash ≡ front ++ rest →
-    IsCleared core (front ++ replicate (length rest) 0xFF) (after_ticks left core)
+    Becomes core (front ++ replicate (length rest) 0xFF) (after_ticks left core)
 cleared core job front rest zero pending is some at long flash = absurd (omega (arith, some))
 cleared core job front rest (suc more) pending is some at long flash =
-    subst (λ (n : ℕ). IsCleared core (front ++ replicate n 0xFF) (after_ticks (suc more) core)) (sym long) (blocks-cleared more 4096 core job front rest refl pending is at long flash)
+    subst (λ (n : ℕ). Becomes core (front ++ replicate n 0xFF) (after_ticks (suc more) core)) (sym long) (blocks-cleared more 4096 core job front rest refl pending is at long flash)

@@ -28,8 +28,8 @@ use Rattle.sync_rules.specs.Requests.{erase_request}
 use Rattle.sync_rules.specs.Steps.{Confirms}
 use Rattle.sync_laws.specs.Calm.{Reaches}
 use Rattle.sync_laws.proofs.Calmly.{commands-reach}
-use Rattle.sync_laws.proofs.Writable.{IsReady, not-blocked, whole-units, no-refusal, halved, bare-length}
-use Rattle.sync_laws.proofs.Clearing.{Stays, IsCleared, cleared}
+use Rattle.sync_laws.proofs.Writable.{Makes, IsReady, not-blocked, whole-units, no-refusal, halved, bare-length}
+use Rattle.sync_laws.proofs.Clearing.{Becomes, cleared}
 use Rattle.sync_laws.proofs.KeptSteps.{IsSized}
 use Rattle.sync_laws.proofs.Looked.{more-reaches}
 use Rattle.sync_laws.proofs.Pending.{turns-few}
@@ -75,14 +75,6 @@ begins core ready sized =
     (no-refusal (is_whole_units block_size core range) (is_blocked (length core.flash) core.live range)
     (whole-units block_size core range (omega (arith, half.least)) half.blocks half.blocks (omega (arith, half.both))) (not-blocked core range ready (omega arith)))
 
--- RW is erased whole
-pub record CanErase (setting : Setting) (core : Core) (room : ℕ) : Type 0 where
-  pub after : Core
-  pub stays : Stays core after
-  pub none : after.live.erase ≡ None
-  pub flash_is : after.flash ≡ take (length core.flash / 2) core.flash ++ replicate (length core.flash / 2) 0xFF
-  pub reaches : Reaches setting (Confirms setting (erase_request (rw_range (length core.flash)))) core (Ok tt) after room
-
 -- the request, its answer, a poll of each block, and the saved status
 abbrev pub erase_room : ℕ → ℕ
 erase_room size = 52 + size / 2 / 4096 * 27
@@ -123,7 +115,7 @@ erase-reaches setting core ready sized =
     (commands-reach setting request 0 (on_success confirmed) core last 0 [] (erase-proper bus (rw_range size)) whole)
 
 -- what the erase leaves of the controller
-erase-leaves : (core : Core) → IsReady core → IsSized core → IsCleared (begun core) (take (length core.flash / 2) core.flash ++ replicate (length core.flash / 2) 0xFF) (idled (begun core))
+erase-leaves : (core : Core) → IsReady core → IsSized core → Becomes (begun core) (take (length core.flash / 2) core.flash ++ replicate (length core.flash / 2) 0xFF) (idled (begun core))
 erase-leaves core ready sized =
     let size = length core.flash in
     let half = halved size sized.stated in
@@ -131,16 +123,20 @@ erase-leaves core ready sized =
     let rest = drop (size / 2) core.flash in
     let long : length rest ≡ size / 2 = length-drop (size / 2) core.flash ∙ omega (arith, half.both) in
     let at : length front ≡ size / 2 = length-take-le (size / 2) core.flash (omega (arith, half.both)) in
-    subst (λ (n : ℕ). IsCleared (begun core) (front ++ replicate n 0xFF) (idled (begun core))) long
+    subst (λ (n : ℕ). Becomes (begun core) (front ++ replicate n 0xFF) (idled (begun core))) long
     (cleared (begun core) (asked_job (rw_range size)) front rest (size / 2 / 4096) refl refl (omega (arith, half.least)) (at ∙ omega (arith, half.blocks)) (long ∙ omega (arith, half.blocks)) (sym (take-append-drop (size / 2) core.flash)))
 
-pub can-erase : (setting : Setting) (core : Core) → IsReady core → IsSized core → CanErase setting core (erase_room (length core.flash))
+-- RW is erased whole
+pub can-erase : (setting : Setting) (core : Core) → IsReady core → IsSized core →
+    Makes setting (Confirms setting (erase_request (rw_range (length core.flash)))) core (take (length core.flash / 2) core.flash ++ replicate (length core.flash / 2) 0xFF) (erase_room (length core.flash))
 can-erase setting core ready sized =
     let is = erase-leaves core ready sized in
     record {
       after = told_once (idled (begun core));
-      stays = record { pin_is = is.stays.pin_is; copy_is = is.stays.copy_is; ro_is = is.stays.ro_is; all_is = is.stays.all_is; off_is = is.stays.off_is };
-      none = is.none;
-      flash_is = is.flash_is;
+      becomes = record {
+        stays = record { pin_is = is.stays.pin_is; copy_is = is.stays.copy_is; ro_is = is.stays.ro_is; all_is = is.stays.all_is; off_is = is.stays.off_is };
+        none = is.none;
+        flash_is = is.flash_is;
+      };
       reaches = erase-reaches setting core ready sized;
     }

@@ -18,3 +18,5 @@ pub mod Freeing
 pub mod Clearing
 pub mod Writable
 pub mod Erasing
+pub mod Blanks
+pub mod Writing

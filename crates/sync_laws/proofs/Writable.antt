@@ -1,5 +1,5 @@
 -- When RW may be written, and what a command of the flash is not refused for.
-use Rattle.std.proofs.Common.{◌≡◌, refl, ap, ◌∙◌, ℕ, ◌+◌, ◌-◌, ◌/◌, ◌%◌, ◌≤◌, ◌||◌, ◌&&◌, ◌==◌, Bool, true, false, not, nat_lt, nat_le, if◌then◌else◌, List, [], length, Option, Some, None, arith}
+use Rattle.std.proofs.Common.{◌≡◌, refl, ap, ◌∙◌, ℕ, ◌+◌, ◌-◌, ◌/◌, ◌%◌, ◌≤◌, ◌||◌, ◌&&◌, ◌==◌, Bool, true, false, not, nat_lt, nat_le, if◌then◌else◌, List, [], length, Option, Some, None, Result, Ok, arith}
 use Rattle.std.proofs.lemmas.Bool.Decides.{leb_tells, eqb_tells}
 use Rattle.ec_types.specs.declared.image.ImageCopy.{ImageCopy}
 use Rattle.ec_types.specs.declared.image.ImageCopy.TheVariants.{Ro}
@@ -8,7 +8,12 @@ use Rattle.ec_model.specs.Answer.{Answered, unless_refused}
 use Rattle.ec_model.specs.FlashRows.{is_whole_units}
 use Rattle.ec_model.specs.Ranges.{Range, copy_range, wp_ro_range, overlaps, is_flash_size}
 use Rattle.ec_model.specs.Table.{Core, is_blocked}
-use Rattle.sync_laws.proofs.Clearing.{Stays}
+use Rattle.ec_model.specs.declared.event.Entry.{Entry}
+use Rattle.ec_model.specs.Asks.{Setting}
+use Rattle.ec_model.specs.HostCalls.{HostView}
+use Rattle.sync_rules.specs.declared.ending.Stop.{Stop}
+use Rattle.sync_laws.specs.Calm.{Reaches}
+use Rattle.sync_laws.proofs.Clearing.{Stays, Becomes}
 use Rattle.sync_laws.proofs.Proper.{HasLength}
 
 -- RW may be written: RO runs, the whole flash is not locked, and nothing is pending
@@ -20,6 +25,12 @@ pub record IsReady (core : Core) : Type 0 where
 -- so is a controller that differs in its flash alone
 pub ready-stays : (old new : Core) → Stays old new → new.live.erase ≡ None → IsReady old → IsReady new
 ready-stays old new stays none ready = record { none = none; runs = stays.copy_is ∙ ready.runs; open_ = stays.all_is ∙ ready.open_ }
+
+-- a part that makes this the flash
+pub record Makes (setting : Setting) (part : HostView → List Entry → Result (Unit {0}) Stop → Type 0) (core : Core) (flash : List ℕ) (room : ℕ) : Type 0 where
+  pub after : Core
+  pub becomes : Becomes core flash after
+  pub reaches : Reaches {A = Unit {0}} setting part core (Ok tt) after room
 
 -- a range behind RO is not blocked
 ro-apart : (size : ℕ) (copy : ImageCopy) (range : Range) → copy ≡ Ro → size / 2 ≤ range.at → overlaps range (copy_range copy size) ≡ false
