@@ -20,3 +20,5 @@ pub mod Writable
 pub mod Erasing
 pub mod Blanks
 pub mod Writing
+pub mod Pieces
+pub mod Installing
