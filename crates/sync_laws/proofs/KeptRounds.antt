@@ -124,7 +124,7 @@ seal-is bus core after last started at =
     }
 
 -- RW has the digest that is aimed at
-aimed-holds : (image : List ℕ) (core : Core) → part (rw_range (length core.flash)) core.flash ≡ padded image (length core.flash) → is_aimed (aimed_at image core) core ≡ true
+pub aimed-holds : (image : List ℕ) (core : Core) → part (rw_range (length core.flash)) core.flash ≡ padded image (length core.flash) → is_aimed (aimed_at image core) core ≡ true
 aimed-holds image core holds =
     let digest : rw_digest core ≡ expected image (length core.flash) = ap sha256 holds in
     ap (λ (bytes : List ℕ). bytes_eq bytes (expected image (length core.flash))) digest ∙ bytes-self (expected image (length core.flash))

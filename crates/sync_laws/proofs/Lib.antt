@@ -22,3 +22,4 @@ pub mod Blanks
 pub mod Writing
 pub mod Pieces
 pub mod Installing
+pub mod Rewriting
