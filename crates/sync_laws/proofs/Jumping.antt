@@ -68,7 +68,7 @@ vector-held image flash fits holds =
     ∙ not-false (vector_in (rw_range size) (u32_at 4 image)) facts.1
 
 -- a jump from RO that is not denied
-ro-differs : (copy : ImageCopy) → copy ≡ Ro → same_copy Rw copy ≡ false
+pub ro-differs : (copy : ImageCopy) → copy ≡ Ro → same_copy Rw copy ≡ false
 ro-differs Ro is = refl
 ro-differs Rw is = absurd (cc)
 
@@ -116,7 +116,7 @@ cold-reaches setting core none =
     (more-reaches setting (Colds setting) core (Ok tt) (restarted core) (restart_room setting.bus core.live.erase) 41 (cold-few setting.bus core.live.erase none) (colds-reach setting core))
 
 -- the first jump behind a boot is not denied
-and-false : (test : Bool) → (test && false) ≡ false
+pub and-false : (test : Bool) → (test && false) ≡ false
 and-false true = refl
 and-false false = refl
 
@@ -133,7 +133,7 @@ pub record CanStart (setting : Setting) (core : Core) : Type 0 where
   pub started : IsStarted core after
   pub starts : Reaches setting (Starts setting) core (Ok true) after 233
 
-start-with : (setting : Setting) (core after : Core) (runs : Bool) (room : ℕ) → core.live.erase ≡ None → runs_rw core.live.copy ≡ runs → room ≤ 111 → Reaches setting (When runs (Gives (Ok true)) (Then (Jumps setting) (JumpLeads setting))) core (Ok true) after room →
+pub start-with : (setting : Setting) (core after : Core) (runs : Bool) (room : ℕ) → core.live.erase ≡ None → runs_rw core.live.copy ≡ runs → room ≤ 111 → Reaches setting (When runs (Gives (Ok true)) (Then (Jumps setting) (JumpLeads setting))) core (Ok true) after room →
     Reaches setting (Starts setting) core (Ok true) after 233
 start-with setting core after runs room none is few goes =
     more-reaches setting (Starts setting) core (Ok true) after (122 + room) 233 (omega (arith, few))

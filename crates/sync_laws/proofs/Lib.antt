@@ -23,3 +23,5 @@ pub mod Writing
 pub mod Pieces
 pub mod Installing
 pub mod Rewriting
+pub mod Trying
+pub mod Planning
