@@ -1,5 +1,5 @@
 -- RW is erased and the padded image written, where nothing disturbs it.
-use Rattle.std.proofs.Common.{◌≡◌, refl, sym, ap, ◌∙◌, subst, ℕ, zero, suc, ◌+◌, ◌-◌, ◌*◌, ◌/◌, ◌≤◌, Bool, true, false, not, nat_lt, if◌then◌else◌, List, ◌++◌, length, take, replicate, arith}
+use Rattle.std.proofs.Common.{◌≡◌, refl, sym, ap, ◌∙◌, subst, ℕ, zero, suc, ◌+◌, ◌-◌, ◌*◌, ◌/◌, ◌≤◌, Bool, true, false, not, nat_lt, if◌then◌else◌, List, ◌++◌, length, take, Ok, replicate, arith}
 use Rattle.std.proofs.lemmas.Bool.Decides.{leb_tells}
 use Rattle.std.proofs.lemmas.List.{length-append, length-take-le, length-replicate, take_all, drop_at}
 use Rattle.ec_types.specs.LittleEndian.{AreBytes, u32_at}
@@ -15,9 +15,11 @@ use Rattle.ec_model.specs.Table.{Core}
 use Rattle.sync_rules.specs.Requests.{erase_request}
 use Rattle.sync_rules.specs.Steps.{Confirms, piece_length, pieces, WritesFrom, Installs}
 use Rattle.sync_laws.specs.Kept.{HoldsFitting}
+use Rattle.sync_laws.specs.Written.{installed, install_room}
 use Rattle.sync_laws.proofs.Blanks.{bytes-append, bytes-blank, written_to}
 use Rattle.sync_laws.proofs.Erasing.{erase_room, can-erase}
 use Rattle.sync_laws.proofs.KeptSteps.{IsSized}
+use Rattle.sync_laws.proofs.Looked.{more-reaches}
 use Rattle.sync_laws.proofs.Pieces.{IsSource, pieces_room, makes-then, pieces-make}
 use Rattle.sync_laws.proofs.Writable.{IsReady, ready-stays, Makes, halved}
 
@@ -32,10 +34,6 @@ padded-length image size fits =
     let test = not-long (nat_lt (length image) 8) (nat_lt (rw_range size).size (length image)) (not (vector_in (rw_range size) (u32_at 4 image))) fits in
     let within : length image ≤ size / 2 = grind (arith, leb_tells, test) in
     omega (arith, within, length-append image (replicate (size / 2 - length image) 0xFF), length-replicate {A = ℕ} (size / 2 - length image) 0xFF)
-
--- the flash with the image
-abbrev pub installed : List ℕ → List ℕ → List ℕ
-installed image flash = take (rw_range (length flash)).at flash ++ padded image (length flash)
 
 -- RW is to be written with this image
 pub record IsToInstall (image : List ℕ) (core : Core) : Type 0 where
@@ -54,9 +52,10 @@ source-is image core to =
       front_long = length-take-le (size / 2) core.flash (omega (arith, half.both));
     }
 
--- the erase and the pieces
-abbrev pub install_room : BusKind → ℕ → ℕ
-install_room bus size = erase_room size + pieces_room (pieces (size / 2) (packet_limit bus - 16)) (packet_limit bus - 16 + 30)
+-- the room of the pieces
+room-is : (left each : ℕ) → pieces_room left each ≡ left * each
+room-is zero each = omega arith
+room-is (suc left) each = ap (λ (n : ℕ). each + n) (room-is left each) ∙ grind arith
 
 -- before the first piece RW is blank
 none-written : (front bytes : List ℕ) (half none : ℕ) → none ≡ 0 → front ++ replicate half 0xFF ≡ written_to front (take none bytes) (half - none)
@@ -64,14 +63,25 @@ none-written front bytes half none is =
     let whole : half ≡ half - 0 = omega arith in
     subst (λ (n : ℕ). front ++ replicate half 0xFF ≡ written_to front (take n bytes) (half - n)) (sym is) (ap (λ (n : ℕ). front ++ replicate n 0xFF) whole)
 
+room-enough : (bus : BusKind) (size : ℕ) → erase_room size + pieces_room (pieces (size / 2) (packet_limit bus - 16)) (packet_limit bus - 16 + 30) ≤ install_room bus size
+room-enough Lpc size = omega (arith, room-is (pieces (size / 2) 240) 270)
+room-enough I2c size = omega (arith, room-is (pieces (size / 2) 112) 142)
+room-enough Spi size = omega (arith, room-is (pieces (size / 2) 528) 558)
+
 pub can-install : (setting : Setting) (image : List ℕ) (core : Core) → IsReady core → IsToInstall image core → Makes setting (Installs setting image (length core.flash)) core (installed image core.flash) (install_room setting.bus (length core.flash))
 can-install setting image core ready to =
     let size = length core.flash in
     let most = piece_length setting in
+    let count = pieces (size / 2) most in
     let front = take (size / 2) core.flash in
-    makes-then setting (Confirms setting (erase_request (rw_range size))) (λ erased. WritesFrom (pieces (size / 2) most) 0 setting image size) core (front ++ replicate (size / 2) 0xFF) (installed image core.flash) (erase_room size) (pieces_room (pieces (size / 2) most) (most + 30))
+    let made = makes-then setting (Confirms setting (erase_request (rw_range size))) (λ erased. WritesFrom count 0 setting image size) core (front ++ replicate (size / 2) 0xFF) (installed image core.flash) (erase_room size) (pieces_room count (most + 30))
     (can-erase setting core ready to.sized)
-    (λ after becomes. pieces-make (pieces (size / 2) most) 0 setting image size front after (source-is image core to) (omega arith) (ready-stays core after becomes.stays becomes.none ready) (becomes.flash_is ∙ none-written front (padded image size) (size / 2) (0 * most) (grind arith)))
+    (λ after becomes. pieces-make count 0 setting image size front after (source-is image core to) (omega arith) (ready-stays core after becomes.stays becomes.none ready) (becomes.flash_is ∙ none-written front (padded image size) (size / 2) (0 * most) (grind arith))) in
+    record {
+      after = made.after;
+      becomes = made.becomes;
+      reaches = more-reaches setting (Installs setting image size) core (Ok tt) made.after (erase_room size + pieces_room count (most + 30)) (install_room setting.bus size) (room-enough setting.bus size) made.reaches;
+    }
 
 -- the flash with the image has its size, and RW has the image
 pub installed-length : (image : List ℕ) (core : Core) → IsToInstall image core → length (installed image core.flash) ≡ length core.flash
@@ -95,11 +105,7 @@ installed-holds image core after to is =
     }
 
 -- a bound of its calls
-room-is : (left each : ℕ) → pieces_room left each ≡ left * each
-room-is zero each = omega arith
-room-is (suc left) each = ap (λ (n : ℕ). each + n) (room-is left each) ∙ grind arith
-
 pub install-few : (bus : BusKind) (size : ℕ) → size ≤ 4194304 → install_room bus size ≤ 2700000
-install-few Lpc size most = omega (arith, most, room-is (pieces (size / 2) 240) 270)
-install-few I2c size most = omega (arith, most, room-is (pieces (size / 2) 112) 142)
-install-few Spi size most = omega (arith, most, room-is (pieces (size / 2) 528) 558)
+install-few Lpc size most = omega (arith, most)
+install-few I2c size most = omega (arith, most)
+install-few Spi size most = omega (arith, most)

@@ -42,7 +42,7 @@ use Rattle.sync_laws.proofs.Sealing.{only-locks}
 use Rattle.sync_laws.proofs.Surveying.{runs_rw}
 
 -- a flash of the same bytes has the same size
-sized-like : (core after : Core) → after.flash ≡ core.flash → IsSized core → IsSized after
+pub sized-like : (core after : Core) → after.flash ≡ core.flash → IsSized core → IsSized after
 sized-like core after same sized = record {
   stated = subst (λ (flash : List ℕ). is_flash_size (length flash) ≡ true) (sym same) sized.stated;
   least = subst (λ (flash : List ℕ). 65536 ≤ length flash) (sym same) sized.least;
@@ -89,14 +89,14 @@ or-true true = refl
 or-true false = refl
 
 -- bytes are equal to themselves
-bytes-self : (bytes : List ℕ) → bytes_eq bytes bytes ≡ true
+pub bytes-self : (bytes : List ℕ) → bytes_eq bytes bytes ≡ true
 bytes-self bytes = (bytes_eq-Decides bytes bytes).1 refl
 
 -- the size of a controller's flash
 sized-by : (size : ℕ) → is_flash_size size ≡ true → (65536 ≤ size) × (size ≤ 4194304)
 sized-by size is = (grind (arith, eqb_tells), grind (arith, eqb_tells))
 
-sized-core : (core : Core) → IsCoreValid core → IsSized core
+pub sized-core : (core : Core) → IsCoreValid core → IsSized core
 sized-core core valid =
     let bounds = sized-by (length core.flash) valid.size in
     record { stated = valid.size; least = bounds.0; most = bounds.1 }
@@ -112,7 +112,7 @@ can-lock-same : (core after : Core) → after.flash ≡ core.flash → after.pin
 can-lock-same core after flash pin can = ap (λ (bytes : List ℕ). after.pin && (stored bytes).ro) flash ∙ ap (λ (asserted : Bool). asserted && (stored core.flash).ro) pin ∙ can
 
 -- what the last steps leave
-seal-is : (bus : BusKind) (core after : Core) (last : Table) → IsStarted core after → IsAt bus (sealed after) last → IsSealed bus core (sealed after) last
+pub seal-is : (bus : BusKind) (core after : Core) (last : Table) → IsStarted core after → IsAt bus (sealed after) last → IsSealed bus core (sealed after) last
 seal-is bus core after last started at =
     let like = protected-like after in
     record {
@@ -130,7 +130,7 @@ aimed-holds image core holds =
     ap (λ (bytes : List ℕ). bytes_eq bytes (expected image (length core.flash))) digest ∙ bytes-self (expected image (length core.flash))
 
 -- the calls of waiting for an erase
-pending-few : (size : ℕ) (live : Live) (erase : Option EraseJob) → size ≤ 4194304 → IsErasable size live erase → pending_room erase ≤ 27670
+pub pending-few : (size : ℕ) (live : Live) (erase : Option EraseJob) → size ≤ 4194304 → IsErasable size live erase → pending_room erase ≤ 27670
 pending-few size live None most erasable = omega arith
 pending-few size live (Some job) most erasable = omega (arith, erasable.1, most)
 

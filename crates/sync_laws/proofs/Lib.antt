@@ -25,3 +25,6 @@ pub mod Installing
 pub mod Rewriting
 pub mod Trying
 pub mod Planning
+pub mod Rounding
+pub mod WrittenRounds
+pub mod WrittenSync

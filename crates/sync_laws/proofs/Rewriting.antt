@@ -12,10 +12,11 @@ use Rattle.sync_rules.specs.Parts.{Gives, Then}
 use Rattle.sync_rules.specs.Replies.{given_if}
 use Rattle.sync_rules.specs.Steps.{Installs, Checks, Starts, Rewrites, Prepares, CarriesOut, Seals, plan_of}
 use Rattle.sync_laws.specs.Calm.{Reaches}
+use Rattle.sync_laws.specs.Written.{installed, install_room}
 use Rattle.sync_laws.proofs.Awaiting.{hashed}
 use Rattle.sync_laws.proofs.Calmly.{then-reaches, gives-reaches}
 use Rattle.sync_laws.proofs.Hashed.{IsFree, looks_of, checks-reach}
-use Rattle.sync_laws.proofs.Installing.{installed, IsToInstall, install_room, can-install, installed-length, installed-holds}
+use Rattle.sync_laws.proofs.Installing.{IsToInstall, can-install, installed-length, installed-holds}
 use Rattle.sync_laws.proofs.Jumping.{can-start, vector-held}
 use Rattle.sync_laws.proofs.KeptRounds.{aimed-holds}
 use Rattle.sync_laws.proofs.KeptSteps.{IsSized, aimed_at, sealed, seal_room, seals-reach}

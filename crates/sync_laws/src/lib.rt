@@ -6,6 +6,8 @@
 
 mod keeping;
 mod power;
+mod renewing;
 
 pub use keeping::kept_syncs_are_done;
 pub use power::{dark_syncs_leave_it_off, syncs_take_no_memory};
+pub use renewing::undisturbed_syncs_are_done;
