@@ -46,7 +46,7 @@ block-stays job core =
     let same = (touched-is (block_range job.next) core).stays in
     record { pin_is = same.pin_is; copy_is = same.copy_is; ro_is = same.ro_is; all_is = same.all_is; off_is = same.off_is }
 
-ticked-job : (core : Core) (job : EraseJob) → core.live.erase ≡ Some job → ticked core ≡ block_erased job core
+pub ticked-job : (core : Core) (job : EraseJob) → core.live.erase ≡ Some job → ticked core ≡ block_erased job core
 ticked-job core job pending = ap (λ (erase : Option EraseJob). ticked_by erase core) pending
 
 -- bytes at the begin of what is behind others are overwritten
@@ -56,7 +56,7 @@ blank-front front rest count =
     ap (λ (xs : List ℕ). xs ++ blank ++ drop (length front + length blank) (front ++ rest)) (take-append_seam front rest)
     ∙ ap (λ (xs : List ℕ). front ++ blank ++ xs) (ap (λ (n : ℕ). drop (length front + n) (front ++ rest)) (length-replicate count 0xFF) ∙ drop-append-add front rest count)
 
-blank-at : (place count : ℕ) (front rest : List ℕ) → length front ≡ place → overwritten place (replicate count 0xFF) (front ++ rest) ≡ (front ++ replicate count 0xFF) ++ drop count rest
+pub blank-at : (place count : ℕ) (front rest : List ℕ) → length front ≡ place → overwritten place (replicate count 0xFF) (front ++ rest) ≡ (front ++ replicate count 0xFF) ++ drop count rest
 blank-at place count front rest is = subst (λ (n : ℕ). overwritten n (replicate count 0xFF) (front ++ rest) ≡ (front ++ replicate count 0xFF) ++ drop count rest) is (blank-front front rest count)
 
 -- a block is erased

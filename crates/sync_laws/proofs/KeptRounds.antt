@@ -111,6 +111,13 @@ locks-by core false is after same = absurd (cc)
 can-lock-same : (core after : Core) → after.flash ≡ core.flash → after.pin ≡ core.pin → can_lock core ≡ true → can_lock after ≡ true
 can-lock-same core after flash pin can = ap (λ (bytes : List ℕ). after.pin && (stored bytes).ro) flash ∙ ap (λ (asserted : Bool). asserted && (stored core.flash).ro) pin ∙ can
 
+-- the locks leave the pin
+pub protected-pin : (core : Core) → (protected 6 6 core).pin ≡ core.pin
+protected-pin core = ap (λ (c : Core). c.pin) (only-locks core) ∙ by (can_lock core) where
+  by : (locks : Bool) → (if locks then record core { live = record core.live { ro_now = (core.live.ro_now || true) || true; all_now = core.live.all_now || true } } else core).pin ≡ core.pin
+  by true = refl
+  by false = refl
+
 -- what the last steps leave
 pub seal-is : (bus : BusKind) (core after : Core) (last : Table) → IsStarted core after → IsAt bus (sealed after) last → IsSealed bus core (sealed after) last
 seal-is bus core after last started at =
@@ -118,6 +125,7 @@ seal-is bus core after last started at =
     record {
       at = at;
       flash_is = like.flash_is ∙ started.flash_is;
+      pin_is = protected-pin after ∙ started.pin_is;
       runs = like.copy_is ∙ started.runs;
       jump_off = refl;
       locked = λ can. locks-by after (can_lock after) (can-lock-same core after started.flash_is started.pin_is can) (protected 6 6 after) (only-locks after);

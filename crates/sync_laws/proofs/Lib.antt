@@ -28,3 +28,5 @@ pub mod Planning
 pub mod Rounding
 pub mod WrittenRounds
 pub mod WrittenSync
+pub mod Beneath
+pub mod Succeeding

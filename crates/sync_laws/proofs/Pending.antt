@@ -100,7 +100,7 @@ rids setting core sound = by-erase setting core core.live.erase refl (sound-vali
 core-at : (core : Core) → IsCoreValid core → IsAt I2c core (table_of core (OnI2c (Idle [])))
 core-at core valid = record { valid = valid_table core (OnI2c (Idle [])) valid (omega arith); kind_is = refl; leaves = record { bus = OnI2c (Idle []); same = refl; none_waits = refl } }
 
-ticks-valid : (ticks : ℕ) (core : Core) → IsCoreValid core → IsCoreValid (after_ticks ticks core)
+pub ticks-valid : (ticks : ℕ) (core : Core) → IsCoreValid core → IsCoreValid (after_ticks ticks core)
 ticks-valid zero core valid = valid
 ticks-valid (suc ticks) core valid =
     let table = table_of core (OnI2c (Idle [])) in

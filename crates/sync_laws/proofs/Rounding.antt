@@ -47,7 +47,7 @@ round-done setting image view core middle after plan most more table entries wro
     }
 
 -- the stored protection lies before RW
-stored-by : (one other : List ℕ) (at block : ℕ) → 1024 ≤ block → take (at + block) one ≡ take (at + block) other → stored_in (drop at one) ≡ stored_in (drop at other)
+pub stored-by : (one other : List ℕ) (at block : ℕ) → 1024 ≤ block → take (at + block) one ≡ take (at + block) other → stored_in (drop at one) ≡ stored_in (drop at other)
 stored-by one other at block long same =
     sym (stored_in-take block (drop at one) long) ∙ ap stored_in (sym (drop-take at block one) ∙ ap (drop at) same ∙ drop-take at block other) ∙ stored_in-take block (drop at other) long
 

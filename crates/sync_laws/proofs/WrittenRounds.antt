@@ -1,5 +1,5 @@
 -- The one round of a sync that writes RW where it has to.
-use Rattle.std.proofs.Common.{◌||◌, ◌≡◌, ◌⊎◌, inl, inr, refl, sym, ap, ◌∙◌, subst, ℕ, ◌+◌, ◌/◌, Bool, true, false, if◌then◌else◌, List, length, take, Ok, None, arith}
+use Rattle.std.proofs.Common.{◌≡◌, ◌⊎◌, inl, inr, refl, sym, ap, ◌∙◌, subst, ℕ, ◌+◌, ◌/◌, Bool, true, false, if◌then◌else◌, List, length, take, Ok, None, arith}
 use Rattle.std.specs.Str.{bytes_eq}
 use Rattle.std.proofs.lemmas.List.{take_at, length-take-le}
 use Rattle.std.proofs.lemmas.Slice.Eq.{bytes_eq-Decides}
@@ -9,7 +9,7 @@ use Rattle.ec_types.specs.declared.image.ImageCopy.TheVariants.{Rw}
 use Rattle.ec_model.specs.Asks.{Setting}
 use Rattle.ec_model.specs.Image.{fit_of, padded, expected}
 use Rattle.ec_model.specs.Jump.{has_vector}
-use Rattle.ec_model.specs.ProtectRow.{can_lock, protected}
+use Rattle.ec_model.specs.ProtectRow.{can_lock}
 use Rattle.ec_model.specs.Ranges.{rw_range, part}
 use Rattle.ec_model.specs.Stored.{stored}
 use Rattle.ec_model.specs.Table.{Table, Core}
@@ -22,13 +22,12 @@ use Rattle.sync_laws.specs.Written.{IsInstallable, installed, HasDigest, NeedsWr
 use Rattle.sync_laws.proofs.Hashed.{IsFree}
 use Rattle.sync_laws.proofs.Installing.{IsToInstall, installed-length, installed-holds}
 use Rattle.sync_laws.proofs.Jumping.{IsStarted}
-use Rattle.sync_laws.proofs.KeptRounds.{sized-like, seal-is}
+use Rattle.sync_laws.proofs.KeptRounds.{protected-pin, sized-like, seal-is}
 use Rattle.sync_laws.proofs.KeptSteps.{IsSized, aimed_at, protected-like, sealed, seal_room, keeps-out}
 use Rattle.sync_laws.proofs.Looked.{more-reaches, is_aimed}
 use Rattle.sync_laws.proofs.Planning.{IsPlanned, whole_plan_room, plans-reach}
 use Rattle.sync_laws.proofs.Rewriting.{IsRenewed, rewrite_room, writes-out}
 use Rattle.sync_laws.proofs.Rounding.{stored-before, lock-before}
-use Rattle.sync_laws.proofs.Sealing.{only-locks}
 use Rattle.sync_laws.proofs.Surveying.{runs_rw}
 use Rattle.sync_laws.proofs.Writable.{halved}
 
@@ -70,15 +69,8 @@ needs : (image : List ℕ) (core : Core) → (is_aimed (aimed_at image core) cor
 needs image core (inl other) = inl (other-digest image core other)
 needs image core (inr outside) = inr outside
 
-digest-like : (image : List ℕ) (core after : Core) → after.flash ≡ core.flash → HasDigest image core → HasDigest image after
+pub digest-like : (image : List ℕ) (core after : Core) → after.flash ≡ core.flash → HasDigest image core → HasDigest image after
 digest-like image core after same has = subst (λ (flash : List ℕ). sha256 (part (rw_range (length flash)) flash) ≡ expected image (length flash)) (sym same) has
-
--- the locks leave the pin
-protected-pin : (core : Core) → (protected 6 6 core).pin ≡ core.pin
-protected-pin core = ap (λ (c : Core). c.pin) (only-locks core) ∙ by (can_lock core) where
-  by : (locks : Bool) → (if locks then record core { live = record core.live { ro_now = (core.live.ro_now || true) || true; all_now = core.live.all_now || true } } else core).pin ≡ core.pin
-  by true = refl
-  by false = refl
 
 -- RW is kept
 keeps : (bus : BusKind) (image : List ℕ) (now middle : Core) → middle.flash ≡ now.flash → middle.pin ≡ now.pin → middle.live.erase ≡ None → middle.live.copy ≡ Rw → is_aimed (aimed_at image now) now ≡ true → IsSettled bus image now false (sealed middle)

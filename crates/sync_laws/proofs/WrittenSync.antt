@@ -42,7 +42,7 @@ tick-pin None core = by core.live.hash where
   by (Hashing at size left) = if_cases (λ (c : Core). c.pin ≡ core.pin) (nat_le left 1) _ _ (λ last. refl) (λ more. refl)
   by (Hashed at size digest) = refl
 
-erased-pin : (ticks : ℕ) (core : Core) → (after_ticks ticks core).pin ≡ core.pin
+pub erased-pin : (ticks : ℕ) (core : Core) → (after_ticks ticks core).pin ≡ core.pin
 erased-pin zero core = refl
 erased-pin (suc ticks) core = erased-pin ticks (ticked core) ∙ tick-pin core.live.erase core
 

@@ -20,10 +20,11 @@ pub record HoldsFitting (image : List ℕ) (core : Core) : Type 0 where
   pub fits : fit_of image (length core.flash) ≡ Yes
   pub holds : part (rw_range (length core.flash)) core.flash ≡ padded image (length core.flash)
 
--- the controller behind it: its flash as it was, RW runs, no jump is left, and where locks can be set they are
+-- the controller behind it: its flash and its pin as they were, RW runs, no jump is left, and where locks can be set they are
 pub record IsSealed (bus : BusKind) (core after : Core) (last : Table) : Type 0 where
   pub at : IsAt bus after last
   pub flash_is : after.flash ≡ core.flash
+  pub pin_is : after.pin ≡ core.pin
   pub runs : after.live.copy ≡ Rw
   pub jump_off : after.live.jump_off ≡ true
   pub locked : can_lock core ≡ true → (after.live.ro_now ≡ true) × (after.live.all_now ≡ true)

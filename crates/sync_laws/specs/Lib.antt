@@ -1,3 +1,4 @@
 pub mod Calm
 pub mod Kept
 pub mod Written
+pub mod Synced

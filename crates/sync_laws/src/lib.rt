@@ -7,7 +7,9 @@
 mod keeping;
 mod power;
 mod renewing;
+mod synced;
 
 pub use keeping::kept_syncs_are_done;
 pub use power::{dark_syncs_leave_it_off, syncs_take_no_memory};
 pub use renewing::undisturbed_syncs_are_done;
+pub use synced::syncable_syncs_are_done;
