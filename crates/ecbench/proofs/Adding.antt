@@ -24,17 +24,22 @@ use Rattle.ectool_lines.specs.Running.{Carries, RunsTool, Appends}
 use Rattle.bench_io.specs.Printing.{Prints}
 use Rattle.bench_io.specs.declared.printing.PrintErr.{PrintErr}
 use Rattle.bench_io.specs.declared.printing.PrintErr.TheVariants.{Sink, NoMemory as NoMemoryLeft}
+use Rattle.bench_shelf.specs.declared.shelf.Loaded.{Loaded}
+use Rattle.bench_shelf.specs.declared.shelf.Loaded.TheVariants.{Whole, TooLong}
+use Rattle.sync_lines.specs.Syncing.{SyncsLoaded, RunsSync}
+use Rattle.sync_lines.specs.declared.line.SyncLineErr.{SyncLineErr}
+use Rattle.sync_lines.specs.declared.line.SyncLineErr.TheVariants as sync_err
 use Rattle.ectool_lines.proofs.AnswerLemmas.{Ready, tool-proper}
 use Rattle.script_lines.specs.declared.line.BusLine.{BusLine}
 use Rattle.ecbench.specs.declared.run.Exit.{Exit}
-use Rattle.ecbench.specs.declared.run.Exit.TheVariants.{Done, BadWords, BadFlash, BadLine, SourceFault, SinkFault, NoMemory, ScriptTooLong}
-use Rattle.ecbench.specs.Lines.{Deed, Asks, Happens, Makes, Arms, Cuts, Traces, deed_of, MarksLine, FollowsEach, CarriesLine, ArmsLine, DoesLine, Carried, Happened, Made, HasArmed, HasCut, Traced, armed_text}
+use Rattle.ecbench.specs.declared.run.Exit.TheVariants.{Done, BadWords, BadFlash, BadLine, SourceFault, SinkFault, ShelfFault, NoMemory, ScriptTooLong}
+use Rattle.ecbench.specs.Lines.{Deed, Asks, Around, Happens, Makes, Arms, Cuts, Syncs, Traces, deed_of, MarksLine, FollowsEach, CarriesLine, ArmsLine, SyncsLine, DoesLine, Carried, Happened, Made, HasArmed, HasCut, Synced, Traced, armed_text}
 use Rattle.ecbench.specs.Tracing.{trace_text}
 use Rattle.ecbench.specs.Cutting.{CutsBy, arms_cut, is_cut_deed}
 use Rattle.ecbench.specs.Playing.{AreOwn, IsCalled, PlaysOn}
 use Rattle.ecbench.proofs.PlayLines.{on-then, on-none, on-mark, on-arm, on-cut, on-event, on-host}
 use Rattle.ecbench.proofs.CutCounts.{told-then, told-as, host-told, happens-told, still-told, armed-told}
-use Rattle.ecbench.specs.Serving.{exit_of, ServesLine, ServesEvent, ServesCalls, ServesArm, ServesCut, ServesTrace}
+use Rattle.ecbench.specs.Serving.{exit_of, ServesLine, ServesEvent, ServesCalls, ServesArm, ServesCut, ServesSync, ServesTrace, exit_of_sync}
 use Rattle.ecbench.proofs.FollowLemmas.{each-followed, run-ready}
 
 -- the same from another room
@@ -156,7 +161,19 @@ behind-mark number line deed calls own armings old marked new wants own_are play
       played = on-then (Marks number ∷ []) calls (Mark number ∷ []) own old marked new (on-mark number marks.spare old marked marks.marked) played;
     }
 
-pub line-adds : (number : ℕ) (last : List Entry) (line text : List ℕ) (old new : WireView) → DoesLine number last line text old new → LineAdds number line old new
+-- what a sync added behind the mark of its line
+sync-adds : (size : ℕ) (words : List ℕ) (number : ℕ) (line name : List ℕ) (old marked new : WireView) → deed_of line ≡ Ok (Syncs name) → MarksLine number old marked → (loaded : Loaded) → SyncsLoaded loaded size words marked new → LineAdds number line old new
+sync-adds size words number line name old marked new wants marks (Whole image) (end, some, synced, said) =
+    let room = with_spare synced.spare marked in
+    let part = synced.synced in
+    let host = on-host part.added room new marked.table new.table part.grows.played in
+    behind-mark number line (Syncs name) host.calls part.added 0 old marked new wants host.hosts host.played marks (arms-none line (Syncs name) wants refl)
+    (extends-spare synced.spare part.added marked new (extends-grows part.added room new part.grows)) (host-told part.added room new marked.table new.table part.grows.played)
+sync-adds size words number line name old marked new wants marks TooLong (same, said) =
+    subst (λ (view : WireView). LineAdds number line old view) (sym same)
+    (behind-mark number line (Syncs name) [] [] 0 old marked marked wants refl (on-none marked) marks (arms-none line (Syncs name) wants refl) (extends-none marked) (still-told marked marked marked.table refl refl))
+
+pub line-adds : {around : Around} → (number : ℕ) (last : List Entry) (line text : List ℕ) (old new : WireView) → DoesLine around number last line text old new → LineAdds number line old new
 line-adds number last line text old new (Carried carries) =
     let marked = carries.marked in
     let room = with_spare carries.carries.spare marked in
@@ -185,6 +202,7 @@ line-adds number last line text old new (HasCut operation torn wants cuts said) 
     let marked = cuts.marked in
     behind-mark number line (Cuts operation torn) (ArmsCut operation torn ∷ []) [] 1 old marked new wants refl (on-cut operation torn marked new cuts.armed) cuts.marks (arms-one line operation torn wants) (cut-extends operation torn marked new cuts.armed)
     (armed-told operation torn marked new marked.table (ap (λ (view : WireView). view.cut) cuts.armed) (ap (λ (view : WireView). view.own_cuts) cuts.armed))
+line-adds number last line text old new (Synced name words wants syncs said) = sync-adds _ words number line name old (syncs.marked) new wants syncs.marks (syncs.synced).loaded (syncs.synced).synced
 line-adds number last line text old new (Traced wants marks said) =
     behind-mark number line Traces [] [] 0 old new new wants refl (on-none new) marks (arms-none line Traces wants refl) (extends-none new) (still-told new new new.table refl refl)
 
@@ -213,23 +231,23 @@ line-carried number line text tool old marked new wants within agreed marks carr
     }
 
 -- what was done with a line that sends commands
-pub tool-done : (number : ℕ) (last : List Entry) (line text : List ℕ) (tool : Tool) (old marked new : WireView) (before after : Option (List ℕ)) → deed_of line ≡ Ok (Asks tool) → IsInRange tool → IsAgreed marked → MarksLine number old marked →
-    Carries tool text marked new → Appends text before after → ServesLine (Ok tt) number last line old new before after
-tool-done number last line text tool old marked new before after wants within agreed marks carries said =
+pub tool-done : (around : Around) (number : ℕ) (last : List Entry) (line text : List ℕ) (tool : Tool) (old marked new : WireView) (before after : Option (List ℕ)) → deed_of line ≡ Ok (Asks tool) → IsInRange tool → IsAgreed marked → MarksLine number old marked →
+    Carries tool text marked new → Appends text before after → ServesLine around (Ok tt) number last line old new before after
+tool-done around number last line text tool old marked new before after wants within agreed marks carries said =
     inr (record { text = text; does = Carried (line-carried number line text tool old marked new wants within agreed marks carries); printed = said })
 
-pub tool-stopped : (error : PrintErr) (number : ℕ) (last : List Entry) (line : List ℕ) (tool : Tool) (old marked new : WireView) (before after : Option (List ℕ)) → deed_of line ≡ Ok (Asks tool) → IsInRange tool → IsAgreed marked → MarksLine number old marked →
-    RunsTool (Err error) tool marked new before after → ServesLine (Err (exit_of error)) number last line old new before after
-tool-stopped Sink number last line tool old marked new before after wants within agreed marks (text, carries, front) =
+pub tool-stopped : (around : Around) (error : PrintErr) (number : ℕ) (last : List Entry) (line : List ℕ) (tool : Tool) (old marked new : WireView) (before after : Option (List ℕ)) → deed_of line ≡ Ok (Asks tool) → IsInRange tool → IsAgreed marked → MarksLine number old marked →
+    RunsTool (Err error) tool marked new before after → ServesLine around (Err (exit_of error)) number last line old new before after
+tool-stopped around Sink number last line tool old marked new before after wants within agreed marks (text, carries, front) =
     (text, Carried (line-carried number line text tool old marked new wants within agreed marks carries), front)
-tool-stopped NoMemoryLeft number last line tool old marked new before after wants within agreed marks (still, unsaid) =
+tool-stopped around NoMemoryLeft number last line tool old marked new before after wants within agreed marks (still, unsaid) =
     (inr (subst (λ (view : WireView). MarksLine number old view) (sym still) marks), unsaid)
 
 -- an error of printing as an exit
-pub as-exit : (result : Result (Unit {0}) Exit) (error : PrintErr) (number : ℕ) (last : List Entry) (line : List ℕ) (old new : WireView) (before after : Option (List ℕ)) → IsErr result × IsErrAnd result (λ exit. exit ≡ exit_of error) → ServesLine (Err (exit_of error)) number last line old new before after →
-    ServesLine result number last line old new before after
-as-exit (Ok done) error number last line old new before after (never, same) serves = cc
-as-exit (Err exit) error number last line old new before after (is, same) serves = subst (λ (e : Exit). ServesLine (Err e) number last line old new before after) (sym same) serves
+pub as-exit : (around : Around) (result : Result (Unit {0}) Exit) (error : PrintErr) (number : ℕ) (last : List Entry) (line : List ℕ) (old new : WireView) (before after : Option (List ℕ)) → IsErr result × IsErrAnd result (λ exit. exit ≡ exit_of error) → ServesLine around (Err (exit_of error)) number last line old new before after →
+    ServesLine around result number last line old new before after
+as-exit around (Ok done) error number last line old new before after (never, same) serves = cc
+as-exit around (Err exit) error number last line old new before after (is, same) serves = subst (λ (e : Exit). ServesLine around (Err e) number last line old new before after) (sym same) serves
 
 -- what a controller tells agrees with its table behind entries, too
 agreed-told : (old new : WireView) (added : List Entry) (before after : Option Table) → IsAgreed (record old { table = before }) → Extends added old new → RunsAlong added before after → IsAgreed (record new { table = after })
@@ -245,40 +263,43 @@ pub agreed-behind : (old new : WireView) (added : List Entry) → IsAgreed old �
 agreed-behind old new added agreed extends = agreed-told old new added old.table new.table agreed extends extends.run
 
 -- what was done with an event, for a line that wants it
-pub event-serves : (result : Result (Unit {0}) Exit) (number : ℕ) (last : List Entry) (line : List ℕ) (happened : WorldEvent) (old new : WireView) (before after : Option (List ℕ)) → deed_of line ≡ Ok (Happens happened) → ServesEvent result number happened old new before after → ServesLine result number last line old new before after
-event-serves (Ok done) number last line happened old new before after wants (happens, said) = inr (record { text = printed (codes "ok"); does = Happened happened wants happens refl; printed = said })
-event-serves (Err SinkFault) number last line happened old new before after wants (happens, said) = (printed (codes "ok"), Happened happened wants happens refl, said)
-event-serves (Err NoMemory) number last line happened old new before after wants (still, unsaid) = (inl still, unsaid)
-event-serves (Err Done) number last line happened old new before after wants never = absurd never
-event-serves (Err BadWords) number last line happened old new before after wants never = absurd never
-event-serves (Err BadFlash) number last line happened old new before after wants never = absurd never
-event-serves (Err (BadLine at reason)) number last line happened old new before after wants never = absurd never
-event-serves (Err SourceFault) number last line happened old new before after wants never = absurd never
-event-serves (Err ScriptTooLong) number last line happened old new before after wants never = absurd never
+pub event-serves : (around : Around) (result : Result (Unit {0}) Exit) (number : ℕ) (last : List Entry) (line : List ℕ) (happened : WorldEvent) (old new : WireView) (before after : Option (List ℕ)) → deed_of line ≡ Ok (Happens happened) → ServesEvent result number happened old new before after → ServesLine around result number last line old new before after
+event-serves around (Ok done) number last line happened old new before after wants (happens, said) = inr (record { text = printed (codes "ok"); does = Happened happened wants happens refl; printed = said })
+event-serves around (Err SinkFault) number last line happened old new before after wants (happens, said) = (printed (codes "ok"), Happened happened wants happens refl, said)
+event-serves around (Err NoMemory) number last line happened old new before after wants (still, unsaid) = (inl still, unsaid)
+event-serves around (Err Done) number last line happened old new before after wants never = absurd never
+event-serves around (Err BadWords) number last line happened old new before after wants never = absurd never
+event-serves around (Err BadFlash) number last line happened old new before after wants never = absurd never
+event-serves around (Err (BadLine at reason)) number last line happened old new before after wants never = absurd never
+event-serves around (Err SourceFault) number last line happened old new before after wants never = absurd never
+event-serves around (Err ShelfFault) number last line happened old new before after wants never = absurd never
+event-serves around (Err ScriptTooLong) number last line happened old new before after wants never = absurd never
 
 -- what was done with calls of the host, for a line that wants them
-pub calls-serves : (result : Result (Unit {0}) Exit) (number : ℕ) (last : List Entry) (line : List ℕ) (calls : BusLine) (old new : WireView) (before after : Option (List ℕ)) → deed_of line ≡ Ok (Makes calls) → ServesCalls result number calls old new before after → ServesLine result number last line old new before after
-calls-serves (Ok done) number last line calls old new before after wants (words, makes, said) = inr (record { text = printed words; does = Made calls words wants makes refl; printed = said })
-calls-serves (Err SinkFault) number last line calls old new before after wants (words, makes, said) = (printed words, Made calls words wants makes refl, said)
-calls-serves (Err NoMemory) number last line calls old new before after wants (marked, unsaid) = (marked, unsaid)
-calls-serves (Err Done) number last line calls old new before after wants never = absurd never
-calls-serves (Err BadWords) number last line calls old new before after wants never = absurd never
-calls-serves (Err BadFlash) number last line calls old new before after wants never = absurd never
-calls-serves (Err (BadLine at reason)) number last line calls old new before after wants never = absurd never
-calls-serves (Err SourceFault) number last line calls old new before after wants never = absurd never
-calls-serves (Err ScriptTooLong) number last line calls old new before after wants never = absurd never
+pub calls-serves : (around : Around) (result : Result (Unit {0}) Exit) (number : ℕ) (last : List Entry) (line : List ℕ) (calls : BusLine) (old new : WireView) (before after : Option (List ℕ)) → deed_of line ≡ Ok (Makes calls) → ServesCalls result number calls old new before after → ServesLine around result number last line old new before after
+calls-serves around (Ok done) number last line calls old new before after wants (words, makes, said) = inr (record { text = printed words; does = Made calls words wants makes refl; printed = said })
+calls-serves around (Err SinkFault) number last line calls old new before after wants (words, makes, said) = (printed words, Made calls words wants makes refl, said)
+calls-serves around (Err NoMemory) number last line calls old new before after wants (marked, unsaid) = (marked, unsaid)
+calls-serves around (Err Done) number last line calls old new before after wants never = absurd never
+calls-serves around (Err BadWords) number last line calls old new before after wants never = absurd never
+calls-serves around (Err BadFlash) number last line calls old new before after wants never = absurd never
+calls-serves around (Err (BadLine at reason)) number last line calls old new before after wants never = absurd never
+calls-serves around (Err SourceFault) number last line calls old new before after wants never = absurd never
+calls-serves around (Err ShelfFault) number last line calls old new before after wants never = absurd never
+calls-serves around (Err ScriptTooLong) number last line calls old new before after wants never = absurd never
 
 -- what was done with an event that is to be armed, for a line that wants it
-pub arm-serves : (result : Result (Unit {0}) Exit) (number : ℕ) (last : List Entry) (line : List ℕ) (call : ℕ) (event : WorldEvent) (old new : WireView) (before after : Option (List ℕ)) → deed_of line ≡ Ok (Arms call event) → ServesArm result number call event old new before after → ServesLine result number last line old new before after
-arm-serves (Ok done) number last line call event old new before after wants (armed, arms, said) = inr (record { text = printed (armed_text armed); does = HasArmed call event armed wants arms refl; printed = said })
-arm-serves (Err SinkFault) number last line call event old new before after wants (armed, arms, said) = (printed (armed_text armed), HasArmed call event armed wants arms refl, said)
-arm-serves (Err NoMemory) number last line call event old new before after wants (still, unsaid) = (inl still, unsaid)
-arm-serves (Err Done) number last line call event old new before after wants never = absurd never
-arm-serves (Err BadWords) number last line call event old new before after wants never = absurd never
-arm-serves (Err BadFlash) number last line call event old new before after wants never = absurd never
-arm-serves (Err (BadLine at reason)) number last line call event old new before after wants never = absurd never
-arm-serves (Err SourceFault) number last line call event old new before after wants never = absurd never
-arm-serves (Err ScriptTooLong) number last line call event old new before after wants never = absurd never
+pub arm-serves : (around : Around) (result : Result (Unit {0}) Exit) (number : ℕ) (last : List Entry) (line : List ℕ) (call : ℕ) (event : WorldEvent) (old new : WireView) (before after : Option (List ℕ)) → deed_of line ≡ Ok (Arms call event) → ServesArm result number call event old new before after → ServesLine around result number last line old new before after
+arm-serves around (Ok done) number last line call event old new before after wants (armed, arms, said) = inr (record { text = printed (armed_text armed); does = HasArmed call event armed wants arms refl; printed = said })
+arm-serves around (Err SinkFault) number last line call event old new before after wants (armed, arms, said) = (printed (armed_text armed), HasArmed call event armed wants arms refl, said)
+arm-serves around (Err NoMemory) number last line call event old new before after wants (still, unsaid) = (inl still, unsaid)
+arm-serves around (Err Done) number last line call event old new before after wants never = absurd never
+arm-serves around (Err BadWords) number last line call event old new before after wants never = absurd never
+arm-serves around (Err BadFlash) number last line call event old new before after wants never = absurd never
+arm-serves around (Err (BadLine at reason)) number last line call event old new before after wants never = absurd never
+arm-serves around (Err SourceFault) number last line call event old new before after wants never = absurd never
+arm-serves around (Err ShelfFault) number last line call event old new before after wants never = absurd never
+arm-serves around (Err ScriptTooLong) number last line call event old new before after wants never = absurd never
 
 -- an event was to be armed, and printing failed
 pub arm-stopped : (result : Result (Unit {0}) Exit) (error : PrintErr) (number call : ℕ) (event : WorldEvent) (armed : Result (Unit {0}) ArmsFull) (old new : WireView) (before after : Option (List ℕ)) → IsErr result × IsErrAnd result (λ exit. exit ≡ exit_of error) →
@@ -288,25 +309,56 @@ arm-stopped (Err exit) Sink number call event armed old new before after (is, sa
 arm-stopped (Err exit) NoMemoryLeft number call event armed old new before after (is, same) arms prints = absurd prints
 
 -- what was done with a cut that is to be armed, for a line that wants it
-pub cut-serves : (result : Result (Unit {0}) Exit) (number : ℕ) (last : List Entry) (line : List ℕ) (operation : ℕ) (torn : List ℕ) (old new : WireView) (before after : Option (List ℕ)) → deed_of line ≡ Ok (Cuts operation torn) → ServesCut result number operation torn old new before after → ServesLine result number last line old new before after
-cut-serves (Ok done) number last line operation torn old new before after wants (cuts, said) = inr (record { text = printed (codes "ok"); does = HasCut operation torn wants cuts refl; printed = said })
-cut-serves (Err SinkFault) number last line operation torn old new before after wants (cuts, said) = (printed (codes "ok"), HasCut operation torn wants cuts refl, said)
-cut-serves (Err NoMemory) number last line operation torn old new before after wants (still, unsaid) = (inl still, unsaid)
-cut-serves (Err Done) number last line operation torn old new before after wants never = absurd never
-cut-serves (Err BadWords) number last line operation torn old new before after wants never = absurd never
-cut-serves (Err BadFlash) number last line operation torn old new before after wants never = absurd never
-cut-serves (Err (BadLine at reason)) number last line operation torn old new before after wants never = absurd never
-cut-serves (Err SourceFault) number last line operation torn old new before after wants never = absurd never
-cut-serves (Err ScriptTooLong) number last line operation torn old new before after wants never = absurd never
+pub cut-serves : (around : Around) (result : Result (Unit {0}) Exit) (number : ℕ) (last : List Entry) (line : List ℕ) (operation : ℕ) (torn : List ℕ) (old new : WireView) (before after : Option (List ℕ)) → deed_of line ≡ Ok (Cuts operation torn) → ServesCut result number operation torn old new before after → ServesLine around result number last line old new before after
+cut-serves around (Ok done) number last line operation torn old new before after wants (cuts, said) = inr (record { text = printed (codes "ok"); does = HasCut operation torn wants cuts refl; printed = said })
+cut-serves around (Err SinkFault) number last line operation torn old new before after wants (cuts, said) = (printed (codes "ok"), HasCut operation torn wants cuts refl, said)
+cut-serves around (Err NoMemory) number last line operation torn old new before after wants (still, unsaid) = (inl still, unsaid)
+cut-serves around (Err Done) number last line operation torn old new before after wants never = absurd never
+cut-serves around (Err BadWords) number last line operation torn old new before after wants never = absurd never
+cut-serves around (Err BadFlash) number last line operation torn old new before after wants never = absurd never
+cut-serves around (Err (BadLine at reason)) number last line operation torn old new before after wants never = absurd never
+cut-serves around (Err SourceFault) number last line operation torn old new before after wants never = absurd never
+cut-serves around (Err ShelfFault) number last line operation torn old new before after wants never = absurd never
+cut-serves around (Err ScriptTooLong) number last line operation torn old new before after wants never = absurd never
 
 -- what was done with entries that are to be counted, for a line that wants it
-pub trace-serves : (result : Result (Unit {0}) Exit) (number : ℕ) (last : List Entry) (line : List ℕ) (old new : WireView) (before after : Option (List ℕ)) → deed_of line ≡ Ok Traces → ServesTrace result number last old new before after → ServesLine result number last line old new before after
-trace-serves (Ok done) number last line old new before after wants (marks, said) = inr (record { text = printed (trace_text last); does = Traced wants marks refl; printed = said })
-trace-serves (Err SinkFault) number last line old new before after wants (marks, said) = (printed (trace_text last), Traced wants marks refl, said)
-trace-serves (Err NoMemory) number last line old new before after wants (still, unsaid) = (inl still, unsaid)
-trace-serves (Err Done) number last line old new before after wants never = absurd never
-trace-serves (Err BadWords) number last line old new before after wants never = absurd never
-trace-serves (Err BadFlash) number last line old new before after wants never = absurd never
-trace-serves (Err (BadLine at reason)) number last line old new before after wants never = absurd never
-trace-serves (Err SourceFault) number last line old new before after wants never = absurd never
-trace-serves (Err ScriptTooLong) number last line old new before after wants never = absurd never
+pub trace-serves : (around : Around) (result : Result (Unit {0}) Exit) (number : ℕ) (last : List Entry) (line : List ℕ) (old new : WireView) (before after : Option (List ℕ)) → deed_of line ≡ Ok Traces → ServesTrace result number last old new before after → ServesLine around result number last line old new before after
+trace-serves around (Ok done) number last line old new before after wants (marks, said) = inr (record { text = printed (trace_text last); does = Traced wants marks refl; printed = said })
+trace-serves around (Err SinkFault) number last line old new before after wants (marks, said) = (printed (trace_text last), Traced wants marks refl, said)
+trace-serves around (Err NoMemory) number last line old new before after wants (still, unsaid) = (inl still, unsaid)
+trace-serves around (Err Done) number last line old new before after wants never = absurd never
+trace-serves around (Err BadWords) number last line old new before after wants never = absurd never
+trace-serves around (Err BadFlash) number last line old new before after wants never = absurd never
+trace-serves around (Err (BadLine at reason)) number last line old new before after wants never = absurd never
+trace-serves around (Err SourceFault) number last line old new before after wants never = absurd never
+trace-serves around (Err ShelfFault) number last line old new before after wants never = absurd never
+trace-serves around (Err ScriptTooLong) number last line old new before after wants never = absurd never
+
+-- what was done with an image that is to be synced, for a line that wants it
+pub sync-serves : (result : Result (Unit {0}) Exit) (around : Around) (number : ℕ) (last : List Entry) (line name : List ℕ) (old new : WireView) (before after : Option (List ℕ)) → deed_of line ≡ Ok (Syncs name) → ServesSync result around number name old new before after → ServesLine around result number last line old new before after
+sync-serves (Ok done) around number last line name old new before after wants (words, syncs, said) = inr (record { text = printed words; does = Synced name words wants syncs refl; printed = said })
+sync-serves (Err SinkFault) around number last line name old new before after wants (words, syncs, said) = (printed words, Synced name words wants syncs refl, said)
+sync-serves (Err ShelfFault) around number last line name old new before after wants (marks, unsaid) = (name, wants, marks, unsaid)
+sync-serves (Err NoMemory) around number last line name old new before after wants (marked, unsaid) = (marked, unsaid)
+sync-serves (Err Done) around number last line name old new before after wants never = absurd never
+sync-serves (Err BadWords) around number last line name old new before after wants never = absurd never
+sync-serves (Err BadFlash) around number last line name old new before after wants never = absurd never
+sync-serves (Err (BadLine at reason)) around number last line name old new before after wants never = absurd never
+sync-serves (Err SourceFault) around number last line name old new before after wants never = absurd never
+sync-serves (Err ScriptTooLong) around number last line name old new before after wants never = absurd never
+
+-- a line that syncs, behind its mark, was not printed whole, or not carried out
+pub sync-stopped : (result : Result (Unit {0}) Exit) (error : SyncLineErr) (around : Around) (number : ℕ) (name : List ℕ) (old marked new : WireView) (before after : Option (List ℕ)) → IsErr result × IsErrAnd result (λ exit. exit ≡ exit_of_sync error) → MarksLine number old marked →
+    RunsSync (Err error) around.files around.size name marked new before after → ServesSync result around number name old new before after
+sync-stopped (Ok done) error around number name old marked new before after (never, same) marks runs = cc
+sync-stopped (Err exit) sync_err.Sink around number name old marked new before after (is, same) marks (words, synced, front) =
+    subst (λ (e : Exit). ServesSync (Err e) around number name old new before after) (sym same) (words, record { marked = marked; marks = marks; synced = synced }, front)
+sync-stopped (Err exit) sync_err.Shelf around number name old marked new before after (is, same) marks (still, unsaid) =
+    subst (λ (e : Exit). ServesSync (Err e) around number name old new before after) (sym same) (subst (λ (view : WireView). MarksLine number old view) (sym still) marks, unsaid)
+sync-stopped (Err exit) sync_err.NoMemory around number name old marked new before after (is, same) marks (still, unsaid) =
+    subst (λ (e : Exit). ServesSync (Err e) around number name old new before after) (sym same) (inr (subst (λ (view : WireView). MarksLine number old view) (sym still) marks), unsaid)
+
+-- the same by the bytes of the name
+pub sync-named : (result : Result (Unit {0}) Exit) (around : Around) (number : ℕ) (last : List Entry) (line bytes name : List ℕ) (old new : WireView) (before after : Option (List ℕ)) → bytes ≡ name → deed_of line ≡ Ok (Syncs name) → ServesSync result around number bytes old new before after → ServesLine around result number last line old new before after
+sync-named result around number last line bytes name old new before after same wants serves =
+    sync-serves result around number last line name old new before after wants (subst (λ (n : List ℕ). ServesSync result around number n old new before after) same serves)

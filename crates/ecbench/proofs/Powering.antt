@@ -13,21 +13,24 @@ use Rattle.bench_wire.specs.BenchView.{BenchView, wire_view}
 use Rattle.bench_wire.specs.Adding.{Extends}
 use Rattle.bench_wire.proofs.Extending.{extends-then}
 use Rattle.ecbench.specs.declared.run.Exit.{Exit}
-use Rattle.ecbench.specs.declared.run.Exit.TheVariants.{Done, BadWords, BadFlash, BadLine, SourceFault, SinkFault, NoMemory, ScriptTooLong}
-use Rattle.ecbench.specs.Endings.{opened, EndsOn, Begins, HandsBack, NothingHappened}
+use Rattle.ecbench.specs.declared.run.Exit.TheVariants.{Done, BadWords, BadFlash, BadLine, SourceFault, SinkFault, ShelfFault, NoMemory, ScriptTooLong}
+use Rattle.bench_shelf.specs.Shelves.{File}
+use Rattle.ecbench.specs.Lines.{Around}
+use Rattle.ecbench.specs.Endings.{opened, around_of, EndsOn, Begins, HandsBack, NothingHappened}
 use Rattle.ecbench.specs.Serving.{DoesNothing, PowersAndServes, Drives}
 use Rattle.ecbench.proofs.Adding.{extends-none, extends-spare}
 
 -- nothing was done, or power came and a script was served
-drives-either : (exit : Exit) (old new : WireView) (left rest before after : Option (List ℕ)) → Drives exit old new left rest before after → DoesNothing old new left rest before after ⊎ PowersAndServes exit old new left rest before after
-drives-either Done old new left rest before after drives = inr drives
-drives-either BadWords old new left rest before after drives = inr drives
-drives-either BadFlash old new left rest before after drives = inr drives
-drives-either (BadLine number reason) old new left rest before after drives = inr drives
-drives-either SourceFault old new left rest before after drives = inr drives
-drives-either SinkFault old new left rest before after drives = inr drives
-drives-either NoMemory old new left rest before after drives = drives
-drives-either ScriptTooLong old new left rest before after drives = inr drives
+drives-either : (around : Around) (exit : Exit) (old new : WireView) (left rest before after : Option (List ℕ)) → Drives around exit old new left rest before after → DoesNothing old new left rest before after ⊎ PowersAndServes around exit old new left rest before after
+drives-either around Done old new left rest before after drives = inr drives
+drives-either around BadWords old new left rest before after drives = inr drives
+drives-either around BadFlash old new left rest before after drives = inr drives
+drives-either around (BadLine number reason) old new left rest before after drives = inr drives
+drives-either around SourceFault old new left rest before after drives = inr drives
+drives-either around SinkFault old new left rest before after drives = inr drives
+drives-either around ShelfFault old new left rest before after drives = inr drives
+drives-either around NoMemory old new left rest before after drives = drives
+drives-either around ScriptTooLong old new left rest before after drives = inr drives
 
 -- some entries were added
 pub record Grew (old new : WireView) : Type 0 where
@@ -35,9 +38,9 @@ pub record Grew (old new : WireView) : Type 0 where
   pub extends : Extends added old new
 
 -- all that a run added
-pub drives-grew : (exit : Exit) (old new : WireView) (left rest before after : Option (List ℕ)) → Drives exit old new left rest before after → Grew old new
-drives-grew exit old new left rest before after drives =
-    elim (drives-either exit old new left rest before after drives) [
+pub drives-grew : (around : Around) (exit : Exit) (old new : WireView) (left rest before after : Option (List ℕ)) → Drives around exit old new left rest before after → Grew old new
+drives-grew around exit old new left rest before after drives =
+    elim (drives-either around exit old new left rest before after drives) [
       | inl nothing ↦ record { added = []; extends = subst (λ (view : WireView). Extends [] old view) (sym nothing.same) (extends-none old) }
       | inr served ↦
           let now = served.powers.happens in
@@ -70,9 +73,9 @@ opens kind pin came device bench controller same off told device_is uncut_is =
     ∙ ap (λ (cuts : ℕ). record (opened kind pin came) { cuts = cuts }) none
 
 -- power came, and a script was carried out
-begins : (bus : BusKind) (pin : Bool) (exit : Exit) (came back : DeviceView) (new : WireView) (left rest before after : Option (List ℕ)) (entries : List Entry) → entries ≡ new.entries → HandsBack new back → PowersAndServes exit (opened bus pin came) new left rest before after →
-    Begins bus pin exit came back left rest before after entries
-begins bus pin exit came back new left rest before after entries journal hands served =
+begins : (files : Option (List File)) (bus : BusKind) (pin : Bool) (exit : Exit) (came back : DeviceView) (new : WireView) (left rest before after : Option (List ℕ)) (entries : List Entry) → entries ≡ new.entries → HandsBack new back → PowersAndServes (around_of files came) exit (opened bus pin came) new left rest before after →
+    Begins files bus pin exit came back left rest before after entries
+begins files bus pin exit came back new left rest before after entries journal hands served =
     record { spare = served.spare; powered = served.powered; last = new; powers = served.powers; plays = served.serves.plays; entries_are = journal; hands = hands }
 
 -- nothing happened
@@ -81,14 +84,15 @@ nothing-happened bus pin came new left rest before after entries journal nothing
     record { unread = nothing.unread; unprinted = nothing.unprinted; no_entry = journal ∙ ap (λ (view : WireView). view.entries) nothing.same }
 
 -- what an exit says of a script that was carried out
-pub drives-ends : (bus : BusKind) (pin : Bool) (exit : Exit) (came back : DeviceView) (new : WireView) (left rest before after : Option (List ℕ)) (entries : List Entry) → entries ≡ new.entries → HandsBack new back → Drives exit (opened bus pin came) new left rest before after →
-    EndsOn bus pin exit came back left rest before after entries
-drives-ends bus pin NoMemory came back new left rest before after entries journal hands (inl nothing) = inl (nothing-happened bus pin came new left rest before after entries journal nothing)
-drives-ends bus pin NoMemory came back new left rest before after entries journal hands (inr served) = inr (begins bus pin NoMemory came back new left rest before after entries journal hands served)
-drives-ends bus pin Done came back new left rest before after entries journal hands drives = begins bus pin Done came back new left rest before after entries journal hands drives
-drives-ends bus pin BadWords came back new left rest before after entries journal hands drives = begins bus pin BadWords came back new left rest before after entries journal hands drives
-drives-ends bus pin BadFlash came back new left rest before after entries journal hands drives = begins bus pin BadFlash came back new left rest before after entries journal hands drives
-drives-ends bus pin (BadLine number reason) came back new left rest before after entries journal hands drives = begins bus pin (BadLine number reason) came back new left rest before after entries journal hands drives
-drives-ends bus pin SourceFault came back new left rest before after entries journal hands drives = begins bus pin SourceFault came back new left rest before after entries journal hands drives
-drives-ends bus pin SinkFault came back new left rest before after entries journal hands drives = begins bus pin SinkFault came back new left rest before after entries journal hands drives
-drives-ends bus pin ScriptTooLong came back new left rest before after entries journal hands drives = begins bus pin ScriptTooLong came back new left rest before after entries journal hands drives
+pub drives-ends : (files : Option (List File)) (bus : BusKind) (pin : Bool) (exit : Exit) (came back : DeviceView) (new : WireView) (left rest before after : Option (List ℕ)) (entries : List Entry) → entries ≡ new.entries → HandsBack new back → Drives (around_of files came) exit (opened bus pin came) new left rest before after →
+    EndsOn files bus pin exit came back left rest before after entries
+drives-ends files bus pin NoMemory came back new left rest before after entries journal hands (inl nothing) = inl (nothing-happened bus pin came new left rest before after entries journal nothing)
+drives-ends files bus pin NoMemory came back new left rest before after entries journal hands (inr served) = inr (begins files bus pin NoMemory came back new left rest before after entries journal hands served)
+drives-ends files bus pin Done came back new left rest before after entries journal hands drives = begins files bus pin Done came back new left rest before after entries journal hands drives
+drives-ends files bus pin BadWords came back new left rest before after entries journal hands drives = begins files bus pin BadWords came back new left rest before after entries journal hands drives
+drives-ends files bus pin BadFlash came back new left rest before after entries journal hands drives = begins files bus pin BadFlash came back new left rest before after entries journal hands drives
+drives-ends files bus pin (BadLine number reason) came back new left rest before after entries journal hands drives = begins files bus pin (BadLine number reason) came back new left rest before after entries journal hands drives
+drives-ends files bus pin SourceFault came back new left rest before after entries journal hands drives = begins files bus pin SourceFault came back new left rest before after entries journal hands drives
+drives-ends files bus pin SinkFault came back new left rest before after entries journal hands drives = begins files bus pin SinkFault came back new left rest before after entries journal hands drives
+drives-ends files bus pin ShelfFault came back new left rest before after entries journal hands drives = begins files bus pin ShelfFault came back new left rest before after entries journal hands drives
+drives-ends files bus pin ScriptTooLong came back new left rest before after entries journal hands drives = begins files bus pin ScriptTooLong came back new left rest before after entries journal hands drives

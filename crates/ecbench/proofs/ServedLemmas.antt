@@ -25,7 +25,7 @@ use Rattle.script_words.specs.Forms.{◌>>=◌}
 use Rattle.ectool_lines.specs.Running.{Appends}
 use Rattle.ecbench.specs.declared.run.Exit.{Exit}
 use Rattle.ecbench.specs.declared.run.Exit.TheVariants.{Done, BadLine, SourceFault, ScriptTooLong}
-use Rattle.ecbench.specs.Lines.{AreDone, IsFaulty, deed_by}
+use Rattle.ecbench.specs.Lines.{Around, AreDone, IsFaulty, deed_by}
 use Rattle.bench_wire.specs.Adding.{Extends}
 use Rattle.script_lines.specs.declared.line.Line.{Line as ScriptLine}
 use Rattle.script_lines.specs.declared.line.Line.TheVariants.{Nothing}
@@ -73,7 +73,7 @@ appends-nothing (Some written) = sym (append-nil written)
 
 -- So many lines of a script were done: their parts and their bytes, which were read; the entries that they added, and what
 -- they printed. The last line that did something has the entries from `since` on.
-pub record Served (number since : ℕ) (opened now : WireView) (reader : ReaderView) (left rest before after : Option (List ℕ)) : Type 0 where
+pub record Served (around : Around) (number since : ℕ) (opened now : WireView) (reader : ReaderView) (left rest before after : Option (List ℕ)) : Type 0 where
   pub raws : List (List ℕ)
   pub used : List ℕ
   pub splits : Splits raws used
@@ -91,11 +91,11 @@ pub record Served (number since : ℕ) (opened now : WireView) (reader : ReaderV
   pub calls : List BenchCall
   pub called : AreCalled 1 (map without_return raws) calls
   pub played : PlaysOn calls own opened now
-  pub done : AreDone 1 opened.entries (map without_return raws) text opened now last
+  pub done : AreDone around 1 opened.entries (map without_return raws) text opened now last
   pub printed : Appends text before after
 
 -- nothing was read yet
-pub served-nothing : (opened : WireView) (left before : Option (List ℕ)) (reader : ReaderView) → reader ≡ record { ahead = []; given = 0; line = [] } → Takes [] left left → Served 1 0 opened opened reader left left before before
+pub served-nothing : {around : Around} → (opened : WireView) (left before : Option (List ℕ)) (reader : ReaderView) → reader ≡ record { ahead = []; given = 0; line = [] } → Takes [] left left → Served around 1 0 opened opened reader left left before before
 served-nothing opened left before reader fresh none =
     record {
       raws = [];
@@ -120,15 +120,15 @@ served-nothing opened left before reader fresh none =
     }
 
 -- how often power was lost in them
-pub along : {number since : ℕ} {opened now : WireView} {reader : ReaderView} {left rest before after : Option (List ℕ)} → (served : Served number since opened now reader left rest before after) → CutsAlong (count_by arms_cut (map without_return served.raws)) opened now
+pub along : {around : Around} → {number since : ℕ} {opened now : WireView} {reader : ReaderView} {left rest before after : Option (List ℕ)} → (served : Served around number since opened now reader left rest before after) → CutsAlong (count_by arms_cut (map without_return served.raws)) opened now
 along served = record { added = served.own; entries = served.extends.entries; counted = served.cuts }
 
 -- the calls that they are
-pub plays-lines : {number since : ℕ} {opened now : WireView} {reader : ReaderView} {left rest before after : Option (List ℕ)} → (served : Served number since opened now reader left rest before after) → PlaysLines (map without_return served.raws) opened now
+pub plays-lines : {around : Around} → {number since : ℕ} {opened now : WireView} {reader : ReaderView} {left rest before after : Option (List ℕ)} → (served : Served around number since opened now reader left rest before after) → PlaysLines (map without_return served.raws) opened now
 plays-lines served = record { calls = served.calls; called = served.called; added = served.own; entries = served.extends.entries; played = served.played }
 
 -- what was taken once the next line was looked for
-pub taken-more : {since : ℕ} (number : ℕ) (opened now : WireView) (reader : ReaderView) (left rest more before after : Option (List ℕ)) (came : List ℕ) → (served : Served number since opened now reader left rest before after) → Takes came rest more →
+pub taken-more : {around : Around} → {since : ℕ} (number : ℕ) (opened now : WireView) (reader : ReaderView) (left rest more before after : Option (List ℕ)) (came : List ℕ) → (served : Served around number since opened now reader left rest before after) → Takes came rest more →
     Takes (served.used ++ (reader.ahead ++ came)) left more
 taken-more number opened now reader left rest more before after came served takes =
     subst (λ (taken : List ℕ). Takes taken left more) (append_assoc served.used reader.ahead came) (Takes-then (served.used ++ reader.ahead) came left rest more served.takes takes)
@@ -138,9 +138,9 @@ pub line-number : (number : ℕ) (raws : List (List ℕ)) → number ≡ length 
 line-number number raws same = omega (arith, same, length-map raws without_return)
 
 -- the source failed
-pub serves-failed : {since : ℕ} (number : ℕ) (opened now : WireView) (reader after_reader : ReaderView) (left rest more before after : Option (List ℕ)) (failed : Failed) → Served number since opened now reader left rest before after → Finds (Err failed) reader after_reader rest more →
-    Serves SourceFault opened now left more before after
-serves-failed number opened now reader after_reader left rest more before after failed served finds =
+pub serves-failed : {around : Around} → {since : ℕ} (number : ℕ) (opened now : WireView) (reader after_reader : ReaderView) (left rest more before after : Option (List ℕ)) (failed : Failed) → Served around number since opened now reader left rest before after → Finds (Err failed) reader after_reader rest more →
+    Serves around SourceFault opened now left more before after
+serves-failed {around = around} number opened now reader after_reader left rest more before after failed served finds =
     let all = reader.ahead ++ finds.came in
     let lines = failed-lines served.raws served.used served.splits reader after_reader all served.read finds.says in
     record {
@@ -153,7 +153,7 @@ serves-failed number opened now reader after_reader left rest more before after 
         record {
           text = served.text;
           own = served.last;
-          done = subst (λ (ls : List (List ℕ)). AreDone 1 opened.entries ls served.text opened now served.last) (sym lines) served.done;
+          done = subst (λ (ls : List (List ℕ)). AreDone around 1 opened.entries ls served.text opened now served.last) (sym lines) served.done;
           printed = served.printed;
           cuts = subst (λ (ls : List (List ℕ)). CutsAlong (count_by arms_cut ls) opened now) (sym lines) (along served);
           played = subst (λ (ls : List (List ℕ)). PlaysLines ls opened now) (sym lines) (plays-lines served);
@@ -166,9 +166,9 @@ pub script-fits : (bytes : List ℕ) → length bytes ≤ most_bytes → script_
 script-fits bytes short = ap (λ (test : Bool). if test then lines_of bytes else lines_within (take most_bytes bytes)) (le-leb (length bytes) most_bytes short)
 
 -- the script was read to its end
-pub serves-end : {since : ℕ} (number : ℕ) (opened now : WireView) (reader after_reader : ReaderView) (left rest more before after : Option (List ℕ)) → Served number since opened now reader left rest before after → after_reader.given ≤ most_bytes → Finds (Ok End) reader after_reader rest more →
-    Serves Done opened now left more before after
-serves-end number opened now reader after_reader left rest more before after served within finds =
+pub serves-end : {around : Around} → {since : ℕ} (number : ℕ) (opened now : WireView) (reader after_reader : ReaderView) (left rest more before after : Option (List ℕ)) → Served around number since opened now reader left rest before after → after_reader.given ≤ most_bytes → Finds (Ok End) reader after_reader rest more →
+    Serves around Done opened now left more before after
+serves-end {around = around} number opened now reader after_reader left rest more before after served within finds =
     let all = reader.ahead ++ finds.came in
     let end = finds.says in
     let taken = taken-more number opened now reader left rest more before after finds.came served finds.taken in
@@ -187,7 +187,7 @@ serves-end number opened now reader after_reader left rest more before after ser
         record {
           text = served.text;
           own = served.last;
-          done = subst (λ (ls : List (List ℕ)). AreDone 1 opened.entries ls served.text opened now served.last) (sym lines_are) served.done;
+          done = subst (λ (ls : List (List ℕ)). AreDone around 1 opened.entries ls served.text opened now served.last) (sym lines_are) served.done;
           printed = served.printed;
           cuts = subst (λ (ls : List (List ℕ)). CutsAlong (count_by arms_cut ls) opened now) (sym lines_are) (along served);
           played = subst (λ (ls : List (List ℕ)). PlaysLines ls opened now) (sym lines_are) (plays-lines served);
@@ -196,13 +196,13 @@ serves-end number opened now reader after_reader left rest more before after ser
     }
 
 -- how many bytes were taken
-all-read : {since : ℕ} (number : ℕ) (opened now : WireView) (reader after_reader : ReaderView) (left rest before after : Option (List ℕ)) (all : List ℕ) → (served : Served number since opened now reader left rest before after) → Keeps reader after_reader all →
+all-read : {around : Around} → {since : ℕ} (number : ℕ) (opened now : WireView) (reader after_reader : ReaderView) (left rest before after : Option (List ℕ)) (all : List ℕ) → (served : Served around number since opened now reader left rest before after) → Keeps reader after_reader all →
     length (served.used ++ all) ≡ after_reader.given + length after_reader.ahead
 all-read number opened now reader after_reader left rest before after all served keeps =
     omega (arith, length-append served.used all, served.read, ap length keeps.bytes, length-append keeps.read after_reader.ahead, keeps.given)
 
 -- it was read no further than to the end of the line behind those that were done, and at most 4,096 bytes wait
-no-further : {since : ℕ} (number : ℕ) (opened now : WireView) (reader after_reader : ReaderView) (left rest before after : Option (List ℕ)) (all : List ℕ) → (served : Served number since opened now reader left rest before after) → length after_reader.ahead ≤ 4096 → Keeps reader after_reader all →
+no-further : {around : Around} → {since : ℕ} (number : ℕ) (opened now : WireView) (reader after_reader : ReaderView) (left rest before after : Option (List ℕ)) (all : List ℕ) → (served : Served around number since opened now reader left rest before after) → length after_reader.ahead ≤ 4096 → Keeps reader after_reader all →
     ReadsNoFurther (map without_return served.raws) (served.used ++ all)
 no-further number opened now reader after_reader left rest before after all served few keeps =
     let count = length keeps.read - 1 in
@@ -218,9 +218,9 @@ no-further number opened now reader after_reader left rest before after all serv
     }
 
 -- a script that is too long
-pub serves-full : {since : ℕ} (number : ℕ) (opened now : WireView) (reader after_reader : ReaderView) (left rest more before after : Option (List ℕ)) → Served number since opened now reader left rest before after → IsWithin after_reader.ahead after_reader.given → Finds (Ok Full) reader after_reader rest more →
-    Serves ScriptTooLong opened now left more before after
-serves-full number opened now reader after_reader left rest more before after served within finds =
+pub serves-full : {around : Around} → {since : ℕ} (number : ℕ) (opened now : WireView) (reader after_reader : ReaderView) (left rest more before after : Option (List ℕ)) → Served around number since opened now reader left rest before after → IsWithin after_reader.ahead after_reader.given → Finds (Ok Full) reader after_reader rest more →
+    Serves around ScriptTooLong opened now left more before after
+serves-full {around = around} number opened now reader after_reader left rest more before after served within finds =
     let all = reader.ahead ++ finds.came in
     let full = finds.says in
     let taken = taken-more number opened now reader left rest more before after finds.came served finds.taken in
@@ -238,7 +238,7 @@ serves-full number opened now reader after_reader left rest more before after se
         record {
           text = served.text;
           own = served.last;
-          done = subst (λ (ls : List (List ℕ)). AreDone 1 opened.entries ls served.text opened now served.last) (sym lines_are) served.done;
+          done = subst (λ (ls : List (List ℕ)). AreDone around 1 opened.entries ls served.text opened now served.last) (sym lines_are) served.done;
           printed = served.printed;
           cuts = subst (λ (ls : List (List ℕ)). CutsAlong (count_by arms_cut ls) opened now) (sym lines_are) (along served);
           played = subst (λ (ls : List (List ℕ)). PlaysLines ls opened now) (sym lines_are) (plays-lines served);
@@ -247,7 +247,7 @@ serves-full number opened now reader after_reader left rest more before after se
     }
 
 -- what was done before a line
-abbrev pub before-line : {since : ℕ} (number : ℕ) (opened now : WireView) (reader : ReaderView) (left rest before after : Option (List ℕ)) → (served : Served number since opened now reader left rest before after) → Plays opened.entries (map without_return served.raws) opened now before after
+abbrev pub before-line : {around : Around} → {since : ℕ} (number : ℕ) (opened now : WireView) (reader : ReaderView) (left rest before after : Option (List ℕ)) → (served : Served around number since opened now reader left rest before after) → Plays around opened.entries (map without_return served.raws) opened now before after
 before-line number opened now reader left rest before after served = record { text = served.text; own = served.last; done = served.done; printed = served.printed; cuts = along served; played = plays-lines served }
 
 -- a test and one that does not hold
@@ -277,8 +277,8 @@ told-long : (old : ReaderView) (all : List ℕ) (rest : Option (List ℕ)) → I
 told-long old all rest long = record { raw = long.raw; more = long.more; feedless = long.feedless; bytes = long.bytes; over = told-over old.given long.raw long.more rest long.over }
 
 -- the next line is too long
-pub serves-long : {since : ℕ} (number : ℕ) (opened now : WireView) (reader after_reader : ReaderView) (left rest more before after : Option (List ℕ)) → Served number since opened now reader left rest before after → IsWithin after_reader.ahead after_reader.given → Finds (Ok TooLong) reader after_reader rest more →
-    Serves (BadLine number why.TooLong) opened now left more before after
+pub serves-long : {around : Around} → {since : ℕ} (number : ℕ) (opened now : WireView) (reader after_reader : ReaderView) (left rest more before after : Option (List ℕ)) → Served around number since opened now reader left rest before after → IsWithin after_reader.ahead after_reader.given → Finds (Ok TooLong) reader after_reader rest more →
+    Serves around (BadLine number why.TooLong) opened now left more before after
 serves-long number opened now reader after_reader left rest more before after served within finds =
     let all = reader.ahead ++ finds.came in
     let taken = taken-more number opened now reader left rest more before after finds.came served finds.taken in
@@ -310,7 +310,7 @@ pub record AtLine (raws : List (List ℕ)) (line : List ℕ) (left rest : Option
   pub is_line : IsLine script taken (map without_return raws) line
 
 -- a line that a line feed ends
-pub at-line : {since : ℕ} (number : ℕ) (opened now : WireView) (reader after_reader : ReaderView) (left rest more before after : Option (List ℕ)) → (served : Served number since opened now reader left rest before after) → IsWithin after_reader.ahead after_reader.given → Finds (Ok Line) reader after_reader rest more →
+pub at-line : {around : Around} → {since : ℕ} (number : ℕ) (opened now : WireView) (reader after_reader : ReaderView) (left rest more before after : Option (List ℕ)) → (served : Served around number since opened now reader left rest before after) → IsWithin after_reader.ahead after_reader.given → Finds (Ok Line) reader after_reader rest more →
     AtLine served.raws after_reader.line left more
 at-line number opened now reader after_reader left rest more before after served within finds =
     let all = reader.ahead ++ finds.came in
@@ -329,7 +329,7 @@ told-last old new all rest last =
     record { feedless = last.feedless; bytes = last.bytes; read = last.read; some = last.some; fits = last.fits; ahead = last.ahead; left = none-left rest last.left }
 
 -- a line that the end of the input ends
-pub at-last : {since : ℕ} (number : ℕ) (opened now : WireView) (reader after_reader : ReaderView) (left rest more before after : Option (List ℕ)) → (served : Served number since opened now reader left rest before after) → IsWithin after_reader.ahead after_reader.given → Finds (Ok Last) reader after_reader rest more →
+pub at-last : {around : Around} → {since : ℕ} (number : ℕ) (opened now : WireView) (reader after_reader : ReaderView) (left rest more before after : Option (List ℕ)) → (served : Served around number since opened now reader left rest before after) → IsWithin after_reader.ahead after_reader.given → Finds (Ok Last) reader after_reader rest more →
     AtLine served.raws after_reader.line left more
 at-last number opened now reader after_reader left rest more before after served within finds =
     let all = reader.ahead ++ finds.came in
@@ -343,22 +343,22 @@ at-last number opened now reader after_reader left rest more before after served
     }
 
 -- an exit before a line
-pub serves-exit : {since : ℕ} (next : Next) (exit : Exit) (number : ℕ) (opened now : WireView) (reader after_reader : ReaderView) (left rest more before after : Option (List ℕ)) → exit_at next number ≡ Some exit → Served number since opened now reader left rest before after → IsWithin after_reader.ahead after_reader.given →
-    Finds (Ok next) reader after_reader rest more → Serves exit opened now left more before after
+pub serves-exit : {around : Around} → {since : ℕ} (next : Next) (exit : Exit) (number : ℕ) (opened now : WireView) (reader after_reader : ReaderView) (left rest more before after : Option (List ℕ)) → exit_at next number ≡ Some exit → Served around number since opened now reader left rest before after → IsWithin after_reader.ahead after_reader.given →
+    Finds (Ok next) reader after_reader rest more → Serves around exit opened now left more before after
 serves-exit Line exit number opened now reader after_reader left rest more before after same served within finds = absurd (cc)
 serves-exit Last exit number opened now reader after_reader left rest more before after same served within finds = absurd (cc)
-serves-exit End exit number opened now reader after_reader left rest more before after same served within finds =
+serves-exit {around = around} End exit number opened now reader after_reader left rest more before after same served within finds =
     let exit_is : Done ≡ exit = cc in
-    subst (λ (e : Exit). Serves e opened now left more before after) exit_is (serves-end number opened now reader after_reader left rest more before after served within.read finds)
-serves-exit TooLong exit number opened now reader after_reader left rest more before after same served within finds =
+    subst (λ (e : Exit). Serves around e opened now left more before after) exit_is (serves-end number opened now reader after_reader left rest more before after served within.read finds)
+serves-exit {around = around} TooLong exit number opened now reader after_reader left rest more before after same served within finds =
     let exit_is : BadLine number why.TooLong ≡ exit = cc in
-    subst (λ (e : Exit). Serves e opened now left more before after) exit_is (serves-long number opened now reader after_reader left rest more before after served within finds)
-serves-exit Full exit number opened now reader after_reader left rest more before after same served within finds =
+    subst (λ (e : Exit). Serves around e opened now left more before after) exit_is (serves-long number opened now reader after_reader left rest more before after served within finds)
+serves-exit {around = around} Full exit number opened now reader after_reader left rest more before after same served within finds =
     let exit_is : ScriptTooLong ≡ exit = cc in
-    subst (λ (e : Exit). Serves e opened now left more before after) exit_is (serves-full number opened now reader after_reader left rest more before after served within finds)
+    subst (λ (e : Exit). Serves around e opened now left more before after) exit_is (serves-full number opened now reader after_reader left rest more before after served within finds)
 
 -- a line, where there is no such exit
-pub at-any : {since : ℕ} (next : Next) (number : ℕ) (opened now : WireView) (reader after_reader : ReaderView) (left rest more before after : Option (List ℕ)) → exit_at next number ≡ None → (served : Served number since opened now reader left rest before after) → IsWithin after_reader.ahead after_reader.given →
+pub at-any : {around : Around} → {since : ℕ} (next : Next) (number : ℕ) (opened now : WireView) (reader after_reader : ReaderView) (left rest more before after : Option (List ℕ)) → exit_at next number ≡ None → (served : Served around number since opened now reader left rest before after) → IsWithin after_reader.ahead after_reader.given →
     Finds (Ok next) reader after_reader rest more → AtLine served.raws after_reader.line left more
 at-any Line number opened now reader after_reader left rest more before after same served within finds = at-line number opened now reader after_reader left rest more before after served within finds
 at-any Last number opened now reader after_reader left rest more before after same served within finds = at-last number opened now reader after_reader left rest more before after served within finds

@@ -12,8 +12,9 @@ use Rattle.line_reader.specs.Taking.{Takes}
 use Rattle.line_reader.proofs.Splitting.{line-splits, line-read, last-lines}
 use Rattle.ectool_lines.specs.Running.{Appends}
 use Rattle.ecbench.specs.declared.run.Exit.{Exit}
-use Rattle.ecbench.specs.declared.run.Exit.TheVariants.{Done, BadWords, BadFlash, BadLine, SourceFault, SinkFault, NoMemory, ScriptTooLong}
-use Rattle.ecbench.specs.Lines.{Nothing, MarksLine, DoesLine, PassesOver, IsDone, WasPassed, WasDone, AreDone}
+use Rattle.ecbench.specs.declared.run.Exit.TheVariants.{Done, BadWords, BadFlash, BadLine, SourceFault, SinkFault, ShelfFault, NoMemory, ScriptTooLong}
+use Rattle.bench_shelf.specs.Shelves.{File}
+use Rattle.ecbench.specs.Lines.{Around, Nothing, MarksLine, DoesLine, PassesOver, IsDone, WasPassed, WasDone, AreDone}
 use Rattle.ecbench.specs.Scripts.{Plays}
 use Rattle.bench_wire.specs.Adding.{Extends}
 use Rattle.bench_wire.proofs.Extending.{extends-then}
@@ -60,12 +61,12 @@ since-more since old new added entries some =
     ap (λ (n : ℕ). drop n new.entries) more ∙ ap (drop count) entries ∙ drop-append_seam old.entries added
 
 -- a line that was done on the wire, or passed over
-record LineDid (number : ℕ) (last : List Entry) (line : List ℕ) (old new : WireView) (before after : Option (List ℕ)) : Type 0 where
+record LineDid (around : Around) (number : ℕ) (last : List Entry) (line : List ℕ) (old new : WireView) (before after : Option (List ℕ)) : Type 0 where
   pub own : List Entry
   pub said : List ℕ
   pub extends : Extends own old new
   pub behind : List Entry
-  pub done : IsDone number last line said old new behind
+  pub done : IsDone around number last line said old new behind
   pub since_is : (since : ℕ) → drop since old.entries ≡ last → drop (since_behind since old new) new.entries ≡ behind
   pub printed : Appends said before after
   pub cuts : IfSome old.table (λ table. CutsBy (count_by arms_cut (line ∷ [])) (count_by is_cut_entry own) old.cut old.own_cuts new.cut new.own_cuts)
@@ -73,7 +74,7 @@ record LineDid (number : ℕ) (last : List Entry) (line : List ℕ) (old new : W
   pub called : IsCalled number line calls
   pub played : PlaysOn calls own old new
 
-line-did : (number : ℕ) (last : List Entry) (line : List ℕ) (old new : WireView) (before after : Option (List ℕ)) → (PassesOver line [] old new × Appends [] before after) ⊎ PrintsLine number last line old new before after → LineDid number last line old new before after
+line-did : {around : Around} → (number : ℕ) (last : List Entry) (line : List ℕ) (old new : WireView) (before after : Option (List ℕ)) → (PassesOver line [] old new × Appends [] before after) ⊎ PrintsLine around number last line old new before after → LineDid around number last line old new before after
 line-did number last line old new before after (inl (passes, unprinted)) =
     record {
       own = [];
@@ -93,11 +94,18 @@ line-did number last line old new before after (inr prints) =
     let adds = line-adds number last line prints.text old new prints.does in
     record { own = adds.added; said = prints.text; extends = adds.extends; behind = adds.added; done = WasDone prints.does adds.extends.entries; since_is = λ since is. since-more since old new adds.added adds.extends.entries adds.some; printed = prints.printed; cuts = adds.cuts; calls = adds.calls; called = adds.called; played = adds.played }
 
+-- what was done with a line, by the files that the shelf had at first, and by the reader's line
+pub serves-as : (size : ℕ) (files now : Option (List File)) (read line : List ℕ) (result : Result (Unit {0}) Exit) (number : ℕ) (last : List Entry) (old new : WireView) (before after : Option (List ℕ)) → now ≡ files → read ≡ line →
+    ServesLine (record { size = size; files = now }) result number last read old new before after → ServesLine (record { size = size; files = files }) result number last line old new before after
+serves-as size files now read line result number last old new before after kept same serves =
+    subst (λ (all : Option (List File)). ServesLine (record { size = size; files = all }) result number last line old new before after) kept
+    (subst (λ (bytes : List ℕ). ServesLine (record { size = size; files = now }) result number last bytes old new before after) same serves)
+
 -- what was done with a line, behind the entries of the last one
-pub told-by : {number since : ℕ} {opened now : WireView} {reader : ReaderView} {left rest before after : Option (List ℕ)} → (served : Served number since opened now reader left rest before after) → (result : Result (Unit {0}) Exit) (at : ℕ) (line : List ℕ) (new : WireView) (middle printed : Option (List ℕ)) →
-    ServesLine result at (drop since now.entries) line now new middle printed → ServesLine result at served.last line now new middle printed
-told-by {now = now} served result at line new middle printed serves =
-    subst (λ (last : List Entry). ServesLine result at last line now new middle printed) served.since_is serves
+pub told-by : {around : Around} → {number since : ℕ} {opened now : WireView} {reader : ReaderView} {left rest before after : Option (List ℕ)} → (served : Served around number since opened now reader left rest before after) → (result : Result (Unit {0}) Exit) (at : ℕ) (line : List ℕ) (new : WireView) (middle printed : Option (List ℕ)) →
+    ServesLine around result at (drop since now.entries) line now new middle printed → ServesLine around result at served.last line now new middle printed
+told-by {around = around} {now = now} served result at line new middle printed serves =
+    subst (λ (last : List Entry). ServesLine around result at last line now new middle printed) served.since_is serves
 
 -- how often power was lost in lines and in one more
 cuts-more : (lines : List (List ℕ)) (line : List ℕ) (first second : List Entry) (old middle new : WireView) → RunsAlong first old.table middle.table →
@@ -110,22 +118,22 @@ cuts-more lines line first second old middle new runs once again =
     (told-then (count_by arms_cut lines) (count_by arms_cut (line ∷ [])) (count_by is_cut_entry first) (count_by is_cut_entry second) old.cut middle.cut new.cut old.own_cuts middle.own_cuts new.own_cuts first old.table middle.table runs once again)
 
 -- a line behind others
-record DidMore (number since : ℕ) (raws : List (List ℕ)) (line : List ℕ) (opened now new : WireView) (before later : Option (List ℕ)) : Type 0 where
+record DidMore (around : Around) (number since : ℕ) (raws : List (List ℕ)) (line : List ℕ) (opened now new : WireView) (before later : Option (List ℕ)) : Type 0 where
   pub own : List Entry
   pub extends : Extends own opened new
   pub text : List ℕ
   pub last : List Entry
   pub since_is : drop (since_behind since now new) new.entries ≡ last
   pub within : since_behind since now new ≤ length new.entries
-  pub done : AreDone 1 opened.entries (map without_return raws ++ line ∷ []) text opened new last
+  pub done : AreDone around 1 opened.entries (map without_return raws ++ line ∷ []) text opened new last
   pub printed : Appends text before later
   pub cuts : IfSome opened.table (λ table. CutsBy (count_by arms_cut (map without_return raws ++ line ∷ [])) (count_by is_cut_entry own) opened.cut opened.own_cuts new.cut new.own_cuts)
   pub calls : List BenchCall
   pub called : AreCalled 1 (map without_return raws ++ line ∷ []) calls
   pub played : PlaysOn calls own opened new
 
-did-more : {since : ℕ} (number : ℕ) (opened now new : WireView) (reader : ReaderView) (line : List ℕ) (left rest before after printed : Option (List ℕ)) → (served : Served number since opened now reader left rest before after) →
-    ServesLine (Ok tt) number served.last line now new after printed → DidMore number since served.raws line opened now new before printed
+did-more : {around : Around} → {since : ℕ} (number : ℕ) (opened now new : WireView) (reader : ReaderView) (line : List ℕ) (left rest before after printed : Option (List ℕ)) → (served : Served around number since opened now reader left rest before after) →
+    ServesLine around (Ok tt) number served.last line now new after printed → DidMore around number since served.raws line opened now new before printed
 did-more {since} number opened now new reader line left rest before after printed served line_done =
     let did = line-did number served.last line now new after printed line_done in
     record {
@@ -150,9 +158,9 @@ map-more [] raw = refl
 map-more (first ∷ raws) raw = ap (λ (rest : List (List ℕ)). without_return first ∷ rest) (map-more raws raw)
 
 -- one more line was done
-pub served-more : {since : ℕ} (number : ℕ) (opened now new : WireView) (reader after_reader : ReaderView) (left rest more before after printed : Option (List ℕ)) → (served : Served number since opened now reader left rest before after) →
-    Finds (Ok Line) reader after_reader rest more → ServesLine (Ok tt) number served.last after_reader.line now new after printed → Served (number + 1) (since_behind since now new) opened new after_reader left more before printed
-served-more number opened now new reader after_reader left rest more before after printed served finds line_done =
+pub served-more : {around : Around} → {since : ℕ} (number : ℕ) (opened now new : WireView) (reader after_reader : ReaderView) (left rest more before after printed : Option (List ℕ)) → (served : Served around number since opened now reader left rest before after) →
+    Finds (Ok Line) reader after_reader rest more → ServesLine around (Ok tt) number served.last after_reader.line now new after printed → Served around (number + 1) (since_behind since now new) opened new after_reader left more before printed
+served-more {around = around} number opened now new reader after_reader left rest more before after printed served finds line_done =
     let all = reader.ahead ++ finds.came in
     let found = finds.says in
     let taken = taken-more number opened now reader left rest more before after finds.came served finds.taken in
@@ -181,14 +189,14 @@ served-more number opened now new reader after_reader left rest more before afte
       calls = did.calls;
       called = subst (λ (ls : List (List ℕ)). AreCalled 1 ls did.calls) (sym lines_are) did.called;
       played = did.played;
-      done = subst (λ (ls : List (List ℕ)). AreDone 1 opened.entries ls did.text opened new did.last) (sym lines_are) did.done;
+      done = subst (λ (ls : List (List ℕ)). AreDone around 1 opened.entries ls did.text opened new did.last) (sym lines_are) did.done;
       printed = did.printed;
     }
 
 -- the last line was done
-pub serves-last : {since : ℕ} (number : ℕ) (opened now new : WireView) (reader after_reader : ReaderView) (left rest more before after printed : Option (List ℕ)) → (served : Served number since opened now reader left rest before after) → after_reader.given ≤ most_bytes →
-    Finds (Ok Last) reader after_reader rest more → ServesLine (Ok tt) number served.last after_reader.line now new after printed → Serves Done opened new left more before printed
-serves-last number opened now new reader after_reader left rest more before after printed served within finds line_done =
+pub serves-last : {around : Around} → {since : ℕ} (number : ℕ) (opened now new : WireView) (reader after_reader : ReaderView) (left rest more before after printed : Option (List ℕ)) → (served : Served around number since opened now reader left rest before after) → after_reader.given ≤ most_bytes →
+    Finds (Ok Last) reader after_reader rest more → ServesLine around (Ok tt) number served.last after_reader.line now new after printed → Serves around Done opened new left more before printed
+serves-last {around = around} number opened now new reader after_reader left rest more before after printed served within finds line_done =
     let all = reader.ahead ++ finds.came in
     let last = finds.says in
     let taken = taken-more number opened now reader left rest more before after finds.came served finds.taken in
@@ -209,7 +217,7 @@ serves-last number opened now new reader after_reader left rest more before afte
         record {
           text = did.text;
           own = did.last;
-          done = subst (λ (ls : List (List ℕ)). AreDone 1 opened.entries ls did.text opened new did.last) (sym lines_are) did.done;
+          done = subst (λ (ls : List (List ℕ)). AreDone around 1 opened.entries ls did.text opened new did.last) (sym lines_are) did.done;
           printed = did.printed;
           cuts = subst (λ (ls : List (List ℕ)). CutsAlong (count_by arms_cut ls) opened new) (sym lines_are) (record { added = did.own; entries = did.extends.entries; counted = did.cuts });
           played = subst (λ (ls : List (List ℕ)). PlaysLines ls opened new) (sym lines_are) (record { calls = did.calls; called = did.called; added = did.own; entries = did.extends.entries; played = did.played });
@@ -227,9 +235,9 @@ appends-last : (text : List ℕ) (old middle new : Option (List ℕ)) → Append
 appends-last text old middle new once again = subst (λ (bytes : List ℕ). Appends bytes old new) (append-nil text) (appends-then text [] old middle new once again)
 
 -- a line ended the script
-pub serves-stopped : {since : ℕ} (exit : Exit) (number : ℕ) (opened now new : WireView) (reader : ReaderView) (line : List ℕ) (left rest more before after printed : Option (List ℕ)) → (served : Served number since opened now reader left rest before after) →
-    AtLine served.raws line left more → ServesLine (Err exit) number served.last line now new after printed → Serves exit opened new left more before printed
-serves-stopped (BadLine at reason) number opened now new reader line left rest more before after printed served at_line (same, faulty, still, unprinted) =
+pub serves-stopped : {around : Around} → {since : ℕ} (exit : Exit) (number : ℕ) (opened now new : WireView) (reader : ReaderView) (line : List ℕ) (left rest more before after printed : Option (List ℕ)) → (served : Served around number since opened now reader left rest before after) →
+    AtLine served.raws line left more → ServesLine around (Err exit) number served.last line now new after printed → Serves around exit opened new left more before printed
+serves-stopped {around = around} (BadLine at reason) number opened now new reader line left rest more before after printed served at_line (same, faulty, still, unprinted) =
     record {
       own = served.own;
       extends = subst (λ (view : WireView). Extends served.own opened view) (sym still) served.extends;
@@ -243,12 +251,12 @@ serves-stopped (BadLine at reason) number opened now new reader line left rest m
         record {
           is_line = at_line.is_line;
           number_is = same ∙ line-number number served.raws served.number_is;
-          plays = subst (λ (view : WireView). Plays opened.entries (map without_return served.raws) opened view before printed) (sym still)
+          plays = subst (λ (view : WireView). Plays around opened.entries (map without_return served.raws) opened view before printed) (sym still)
               (record { text = served.text; own = served.last; done = served.done; printed = appends-last served.text before after printed served.printed unprinted; cuts = along served; played = plays-lines served });
         },
       );
     }
-serves-stopped SinkFault number opened now new reader line left rest more before after printed served at_line (text, does, front) =
+serves-stopped {around = around} SinkFault number opened now new reader line left rest more before after printed served at_line (text, does, front) =
     let adds = line-adds number served.last line text now new does in
     record {
       own = served.own ++ adds.added;
@@ -265,7 +273,7 @@ serves-stopped SinkFault number opened now new reader line left rest more before
           between = after;
           text = text;
           plays = before-line number opened now reader left rest before after served;
-          does = subst (λ (n : ℕ). DoesLine n served.last line text now new) (line-number number served.raws served.number_is) does;
+          does = subst (λ (n : ℕ). DoesLine around n served.last line text now new) (line-number number served.raws served.number_is) does;
           printed = front;
           cuts = record {
             added = served.own ++ adds.added;
@@ -301,6 +309,27 @@ serves-stopped NoMemory number opened now new reader line left rest more before 
         },
       );
     }
+serves-stopped ShelfFault number opened now new reader line left rest more before after printed served at_line (name, wants, marks, unprinted) =
+    let mark = marks-extends number now new marks in
+    record {
+      own = served.own ++ Mark number ∷ [];
+      extends = extends-then served.own (Mark number ∷ []) opened now new served.extends mark;
+      plays = (
+        at_line.script,
+        at_line.taken,
+        line,
+        map without_return served.raws,
+        at_line.is_script,
+        at_line.is_line,
+        record {
+          middle = now;
+          name = name;
+          wants = wants;
+          plays = record { text = served.text; own = served.last; done = served.done; printed = appends-last served.text before after printed served.printed unprinted; cuts = along served; played = plays-lines served };
+          marks = subst (λ (n : ℕ). MarksLine n now new) (line-number number served.raws served.number_is) marks;
+        },
+      );
+    }
 serves-stopped Done number opened now new reader line left rest more before after printed served at_line never = absurd never
 serves-stopped BadWords number opened now new reader line left rest more before after printed served at_line never = absurd never
 serves-stopped BadFlash number opened now new reader line left rest more before after printed served at_line never = absurd never
@@ -308,9 +337,9 @@ serves-stopped SourceFault number opened now new reader line left rest more befo
 serves-stopped ScriptTooLong number opened now new reader line left rest more before after printed served at_line never = absurd never
 
 -- the same, where the last line begins
-pub served-since : {number since : ℕ} {opened now : WireView} {reader : ReaderView} {left rest before after : Option (List ℕ)} → (other : ℕ) → other ≡ since → Served number since opened now reader left rest before after → Served number other opened now reader left rest before after
-served-since {number = number} {opened = opened} {now = now} {reader = reader} {left = left} {rest = rest} {before = before} {after = after} other same served =
-    subst (λ (place : ℕ). Served number place opened now reader left rest before after) (sym same) served
+pub served-since : {around : Around} → {number since : ℕ} {opened now : WireView} {reader : ReaderView} {left rest before after : Option (List ℕ)} → (other : ℕ) → other ≡ since → Served around number since opened now reader left rest before after → Served around number other opened now reader left rest before after
+served-since {around = around} {number = number} {opened = opened} {now = now} {reader = reader} {left = left} {rest = rest} {before = before} {after = after} other same served =
+    subst (λ (place : ℕ). Served around number place opened now reader left rest before after) (sym same) served
 
 pub since-is : (since start end result : ℕ) (old new : WireView) → result ≡ (if nat_lt start end then start else since) → start ≡ length old.entries → end ≡ length new.entries → result ≡ since_behind since old new
 since-is since start end result old new same start_is end_is =

@@ -14,8 +14,9 @@ use Rattle.bench_wire.specs.Adding.{Extends}
 use Rattle.bench_wire.specs.BenchView.{BenchView, wire_view}
 use Rattle.bench_words.specs.Words.{Spells, SpellOnce}
 use Rattle.ecbench.specs.declared.run.Exit.{Exit}
-use Rattle.ecbench.specs.declared.run.Exit.TheVariants.{Done, BadWords, BadFlash, BadLine, SourceFault, SinkFault, NoMemory, ScriptTooLong}
-use Rattle.ecbench.specs.Endings.{opened, NothingHappened, HandsBack, EndsOn, Ends, WhereSpelled, CarriesScript, RunsTo, KeepsRo, GuardsRun}
+use Rattle.ecbench.specs.declared.run.Exit.TheVariants.{Done, BadWords, BadFlash, BadLine, SourceFault, SinkFault, ShelfFault, NoMemory, ScriptTooLong}
+use Rattle.bench_shelf.specs.Shelves.{File}
+use Rattle.ecbench.specs.Endings.{opened, around_of, NothingHappened, HandsBack, EndsOn, Ends, WhereSpelled, CarriesScript, RunsTo, KeepsRo, GuardsRun}
 use Rattle.ecbench.specs.Serving.{Drives}
 use Rattle.ecbench.proofs.ServedLemmas.{appends-nothing}
 use Rattle.ecbench.proofs.Powering.{drives-grew, drives-ends}
@@ -76,17 +77,19 @@ told-allowed None extent whole allowed = tt
 told-allowed (Some bytes) extent whole allowed = ap is_flash_size (whole bytes refl) ∙ allowed
 
 -- all that is said of a script that was carried out
-pub run-carries : (kind : BusKind) (pin : Bool) (exit : Exit) (came back : DeviceView) (bench after : BenchView) (entries : List Entry) (script rest before printed : Option (List ℕ)) → ((bytes : List ℕ) → came.held ≡ Some bytes → length bytes ≡ came.extent) → is_flash_size came.extent ≡ true →
-    wire_view kind bench ≡ opened kind pin came → HandsBack (wire_view kind after) back → entries ≡ after.entries → Drives exit (wire_view kind bench) (wire_view kind after) script rest before printed → CarriesScript kind pin exit came back script rest before printed entries
-run-carries kind pin exit came back bench after entries script rest before printed whole allowed opening hands journal drives =
+pub run-carries : {files : Option (List File)} → (size : ℕ) (kind : BusKind) (pin : Bool) (exit : Exit) (came back : DeviceView) (bench after : BenchView) (entries : List Entry) (script rest before printed : Option (List ℕ)) → ((bytes : List ℕ) → came.held ≡ Some bytes → length bytes ≡ came.extent) → is_flash_size came.extent ≡ true →
+    wire_view kind bench ≡ opened kind pin came → HandsBack (wire_view kind after) back → entries ≡ after.entries → size ≡ came.extent → Drives (record { size = size; files = files }) exit (wire_view kind bench) (wire_view kind after) script rest before printed → CarriesScript files kind pin exit came back script rest before printed entries
+run-carries {files = files} size kind pin exit came back bench after entries script rest before printed whole allowed opening hands journal sized drives =
     let new = wire_view kind after in
-    let from : Drives exit (opened kind pin came) new script rest before printed = subst (λ (view : WireView). Drives exit view new script rest before printed) opening drives in
-    let grew = drives-grew exit (opened kind pin came) new script rest before printed from in
+    let around = around_of files came in
+    let sized_as : Drives around exit (wire_view kind bench) new script rest before printed = subst (λ (n : ℕ). Drives (record { size = n; files = files }) exit (wire_view kind bench) new script rest before printed) sized drives in
+    let from : Drives around exit (opened kind pin came) new script rest before printed = subst (λ (view : WireView). Drives around exit view new script rest before printed) opening sized_as in
+    let grew = drives-grew (around_of files came) exit (opened kind pin came) new script rest before printed from in
     let all : grew.added ≡ entries = sym (journal ∙ grew.extends.entries) in
     let extends : Extends entries (opened kind pin came) new = subst (λ (added : List Entry). Extends added (opened kind pin came) new) all grew.extends in
     let runs = runs-to kind pin entries came.held back.held new.table extends.run (sym hands.flash) in
     record {
-      ends = drives-ends kind pin exit came back new script rest before printed entries journal hands from;
+      ends = drives-ends files kind pin exit came back new script rest before printed entries journal hands from;
       runs = runs;
       keeps = keeps-run kind pin entries came.held back.held (told-allowed came.held came.extent whole allowed) runs;
       guards = guarded-run kind pin entries came.held (told-allowed came.held came.extent whole allowed);
@@ -94,16 +97,17 @@ run-carries kind pin exit came back bench after entries script rest before print
     }
 
 -- what an exit says, where the words spell this
-pub ends-by : (exit : Exit) (words : List (List ℕ)) (came back : DeviceView) (path : List ℕ) (bus : BusKind) (pin : Bool) (left rest before after : Option (List ℕ)) (entries : List Entry) → Spells words path bus pin → is_flash_size came.extent ≡ true →
-    EndsOn bus pin exit came back left rest before after entries → Ends exit words came back left rest before after entries
-ends-by NoMemory words came back path bus pin left rest before after entries spelled sized ends = inr (record { path = path; bus = bus; pin = pin; spelled = spelled; sized = sized; said = ends })
-ends-by BadWords words came back path bus pin left rest before after entries spelled sized ends = absurd ends.plays
-ends-by BadFlash words came back path bus pin left rest before after entries spelled sized ends = absurd ends.plays
-ends-by Done words came back path bus pin left rest before after entries spelled sized ends = record { path = path; bus = bus; pin = pin; spelled = spelled; sized = sized; said = ends }
-ends-by (BadLine number reason) words came back path bus pin left rest before after entries spelled sized ends = record { path = path; bus = bus; pin = pin; spelled = spelled; sized = sized; said = ends }
-ends-by SourceFault words came back path bus pin left rest before after entries spelled sized ends = record { path = path; bus = bus; pin = pin; spelled = spelled; sized = sized; said = ends }
-ends-by SinkFault words came back path bus pin left rest before after entries spelled sized ends = record { path = path; bus = bus; pin = pin; spelled = spelled; sized = sized; said = ends }
-ends-by ScriptTooLong words came back path bus pin left rest before after entries spelled sized ends = record { path = path; bus = bus; pin = pin; spelled = spelled; sized = sized; said = ends }
+pub ends-by : (files : Option (List File)) (exit : Exit) (words : List (List ℕ)) (came back : DeviceView) (path : List ℕ) (bus : BusKind) (pin : Bool) (left rest before after : Option (List ℕ)) (entries : List Entry) → Spells words path bus pin → is_flash_size came.extent ≡ true →
+    EndsOn files bus pin exit came back left rest before after entries → Ends files exit words came back left rest before after entries
+ends-by files NoMemory words came back path bus pin left rest before after entries spelled sized ends = inr (record { path = path; bus = bus; pin = pin; spelled = spelled; sized = sized; said = ends })
+ends-by files BadWords words came back path bus pin left rest before after entries spelled sized ends = absurd ends.plays
+ends-by files BadFlash words came back path bus pin left rest before after entries spelled sized ends = absurd ends.plays
+ends-by files Done words came back path bus pin left rest before after entries spelled sized ends = record { path = path; bus = bus; pin = pin; spelled = spelled; sized = sized; said = ends }
+ends-by files (BadLine number reason) words came back path bus pin left rest before after entries spelled sized ends = record { path = path; bus = bus; pin = pin; spelled = spelled; sized = sized; said = ends }
+ends-by files SourceFault words came back path bus pin left rest before after entries spelled sized ends = record { path = path; bus = bus; pin = pin; spelled = spelled; sized = sized; said = ends }
+ends-by files SinkFault words came back path bus pin left rest before after entries spelled sized ends = record { path = path; bus = bus; pin = pin; spelled = spelled; sized = sized; said = ends }
+ends-by files ShelfFault words came back path bus pin left rest before after entries spelled sized ends = record { path = path; bus = bus; pin = pin; spelled = spelled; sized = sized; said = ends }
+ends-by files ScriptTooLong words came back path bus pin left rest before after entries spelled sized ends = record { path = path; bus = bus; pin = pin; spelled = spelled; sized = sized; said = ends }
 
 -- what is said of the bus and the pin that were read is said of whatever the words spell
 pub where-spelled : (words : List (List ℕ)) (says : BusKind → Bool → Type 0) (path : List ℕ) (bus : BusKind) (pin : Bool) → SpellOnce words → Spells words path bus pin → says bus pin → WhereSpelled words says

@@ -16,6 +16,8 @@ use Rattle.ectool_lines.specs.Running.{Appends}
 use Rattle.bench_words.specs.Words.{InGrammar, Spells}
 use Rattle.ecbench.specs.declared.run.Exit.{Exit}
 use Rattle.ecbench.specs.declared.run.Exit.TheVariants.{BadWords, BadFlash, NoMemory}
+use Rattle.bench_shelf.specs.Shelves.{File}
+use Rattle.ecbench.specs.Lines.{Around}
 use Rattle.ecbench.specs.Scripts.{PlaysUpTo}
 
 -- the words spell a bus and the pin, the flash has a size that a controller's flash may have, and of these two this is said
@@ -57,13 +59,17 @@ pub record HandsBack (last : WireView) (back : DeviceView) : Type 0 where
   pub faults : back.faults ≡ last.faults
   pub cuts : back.cuts ≡ last.own_cuts
 
+-- what is around a script: the flash as it came, and the shelf
+abbrev pub around_of : Option (List File) → DeviceView → Around
+around_of files came = record { size = came.extent; files = files }
+
 -- room was made, power came, and the script was carried out as far as the exit says
-pub record Begins (bus : BusKind) (pin : Bool) (exit : Exit) (came back : DeviceView) (left rest before after : Option (List ℕ)) (entries : List Entry) : Type 0 where
+pub record Begins (files : Option (List File)) (bus : BusKind) (pin : Bool) (exit : Exit) (came back : DeviceView) (left rest before after : Option (List ℕ)) (entries : List Entry) : Type 0 where
   pub spare : ℕ
   pub powered : WireView
   pub last : WireView
   pub powers : PowersOn (with_spare spare (opened bus pin came)) powered
-  pub plays : PlaysUpTo powered.entries exit powered last left rest before after
+  pub plays : PlaysUpTo (around_of files came) powered.entries exit powered last left rest before after
   pub entries_are : entries ≡ last.entries
   pub hands : HandsBack last back
 
@@ -75,23 +81,23 @@ pub record NothingHappened (left rest before after : Option (List ℕ)) (entries
 
 -- what an exit says of a script on a controller that is off at first: power came and it was carried out, or memory was refused
 -- before that
-abbrev pub EndsOn : BusKind → Bool → Exit → (came back : DeviceView) → (left rest before after : Option (List ℕ)) → List Entry → Type 0
-EndsOn bus pin NoMemory came back left rest before after entries =
-    NothingHappened left rest before after entries ⊎ Begins bus pin NoMemory came back left rest before after entries
-EndsOn bus pin exit came back left rest before after entries = Begins bus pin exit came back left rest before after entries
+abbrev pub EndsOn : Option (List File) → BusKind → Bool → Exit → (came back : DeviceView) → (left rest before after : Option (List ℕ)) → List Entry → Type 0
+EndsOn files bus pin NoMemory came back left rest before after entries =
+    NothingHappened left rest before after entries ⊎ Begins files bus pin NoMemory came back left rest before after entries
+EndsOn files bus pin exit came back left rest before after entries = Begins files bus pin exit came back left rest before after entries
 
--- what an exit says: of the words and the flash as it came and is handed back, of what the source had and has left, of what was
--- printed before and is now, and of the journal
-abbrev pub Ends : Exit → List (List ℕ) → (came back : DeviceView) → (left rest before after : Option (List ℕ)) → List Entry → Type 0
-Ends BadWords words came back left rest before after entries =
+-- what an exit says: of the shelf, of the words and the flash as it came and is handed back, of what the source had and has left,
+-- of what was printed before and is now, and of the journal
+abbrev pub Ends : Option (List File) → Exit → List (List ℕ) → (came back : DeviceView) → (left rest before after : Option (List ℕ)) → List Entry → Type 0
+Ends files BadWords words came back left rest before after entries =
     (¬ InGrammar words) × NothingHappened left rest before after entries
-Ends BadFlash words came back left rest before after entries =
+Ends files BadFlash words came back left rest before after entries =
     InGrammar words × IsFalse (is_flash_size came.extent) × NothingHappened left rest before after entries
-Ends NoMemory words came back left rest before after entries =
+Ends files NoMemory words came back left rest before after entries =
     (InGrammar words × NothingHappened left rest before after entries)
-    ⊎ StartsAs words came.extent (λ bus pin. EndsOn bus pin NoMemory came back left rest before after entries)
-Ends exit words came back left rest before after entries =
-    StartsAs words came.extent (λ bus pin. EndsOn bus pin exit came back left rest before after entries)
+    ⊎ StartsAs words came.extent (λ bus pin. EndsOn files bus pin NoMemory came back left rest before after entries)
+Ends files exit words came back left rest before after entries =
+    StartsAs words came.extent (λ bus pin. EndsOn files bus pin exit came back left rest before after entries)
 
 -- the journal is a run of the controller, from its flash as it came to the flash as it is handed back
 abbrev pub RunsTo : BusKind → Bool → List Entry → Option (List ℕ) → Option (List ℕ) → Type 0
@@ -109,8 +115,8 @@ GuardsRun bus pin entries held = IfSome held (λ bytes. RunsGuarded (opening byt
 
 -- a script was carried out on a controller on this bus and with this pin, as far as the exit says; the journal is a run, and keeps
 -- guarded RO; and what the flash counted
-pub record CarriesScript (bus : BusKind) (pin : Bool) (exit : Exit) (came back : DeviceView) (left rest before after : Option (List ℕ)) (entries : List Entry) : Type 0 where
-  pub ends : EndsOn bus pin exit came back left rest before after entries
+pub record CarriesScript (files : Option (List File)) (bus : BusKind) (pin : Bool) (exit : Exit) (came back : DeviceView) (left rest before after : Option (List ℕ)) (entries : List Entry) : Type 0 where
+  pub ends : EndsOn files bus pin exit came back left rest before after entries
   pub runs : RunsTo bus pin entries came.held back.held
   pub keeps : IsTrue pin → KeepsRo entries came.held back.held
   pub guards : GuardsRun bus pin entries came.held

@@ -29,11 +29,18 @@ use Rattle.ectool_lines.specs.Texts.{LineEnd, printed}
 use Rattle.ectool_lines.specs.Asking.{AsksEach}
 use Rattle.ectool_lines.specs.Following.{stands, Follows}
 use Rattle.ectool_lines.specs.Running.{Carries}
+use Rattle.bench_shelf.specs.Shelves.{File}
+use Rattle.sync_lines.specs.Syncing.{SyncsName}
 use Rattle.ecbench.specs.Tracing.{trace_text}
 
+-- what is around the lines of a script: the size of the controller's flash, and the shelf's files, where they are told
+pub record Around : Type 0 where
+  pub size : ℕ
+  pub files : Option (List File)
+
 -- what a line wants: nothing, that commands are sent, that an event of the world happens, that the host makes calls of its
--- own, that an event of the world is armed for a call to come, that a cut is armed for a flash operation to come, or that
--- entries are counted
+-- own, that an event of the world is armed for a call to come, that a cut is armed for a flash operation to come, that an image
+-- of the shelf is synced, or that entries are counted
 pub data Deed : Type 0 where
   Nothing : Deed
   Asks : Tool → Deed
@@ -41,6 +48,7 @@ pub data Deed : Type 0 where
   Makes : BusLine → Deed
   Arms : (call : ℕ) → WorldEvent → Deed
   Cuts : (operation : ℕ) → (torn : List ℕ) → Deed
+  Syncs : (name : List ℕ) → Deed
   Traces : Deed
 
 -- what a line wants that was read so far
@@ -53,6 +61,7 @@ deed_by text (line.Reset cause) = Ok (Happens (world.Reset cause))
 deed_by text (line.Bus calls) = Ok (Makes calls)
 deed_by text (line.At call event) = Ok (Arms call event)
 deed_by text (line.Cut operation torn) = Ok (Cuts operation torn)
+deed_by text (line.Sync name) = Ok (Syncs name)
 deed_by text line.Trace = Ok Traces
 
 -- what a line wants, or its first fault
@@ -112,14 +121,21 @@ pub record CutsLine (number operation : ℕ) (torn : List ℕ) (old new : WireVi
   pub marks : MarksLine number old marked
   pub armed : new ≡ record marked { cut = cut_at operation torn }
 
+-- a line was marked, and the image of this name was synced; these are its words
+pub record SyncsLine (around : Around) (number : ℕ) (name words : List ℕ) (old new : WireView) : Type 0 where
+  pub marked : WireView
+  pub marks : MarksLine number old marked
+  pub synced : SyncsName around.files around.size name words marked new
+
 -- a line that wants something was done, and this is its text; `last` are the entries of the last line before that did something
-pub data DoesLine (number : ℕ) (last : List Entry) (text said : List ℕ) (old new : WireView) : Type 0 where
-  Carried : CarriesLine number text said old new → DoesLine number last text said old new
-  Happened : (happened : WorldEvent) → deed_of text ≡ Ok (Happens happened) → HappensLine number happened old new → said ≡ printed (codes "ok") → DoesLine number last text said old new
-  Made : (calls : BusLine) (words : List ℕ) → deed_of text ≡ Ok (Makes calls) → MakesLine number calls words old new → said ≡ printed words → DoesLine number last text said old new
-  HasArmed : (call : ℕ) (event : WorldEvent) (result : Result (Unit {0}) ArmsFull) → deed_of text ≡ Ok (Arms call event) → ArmsLine number call event result old new → said ≡ printed (armed_text result) → DoesLine number last text said old new
-  HasCut : (operation : ℕ) (torn : List ℕ) → deed_of text ≡ Ok (Cuts operation torn) → CutsLine number operation torn old new → said ≡ printed (codes "ok") → DoesLine number last text said old new
-  Traced : deed_of text ≡ Ok Traces → MarksLine number old new → said ≡ printed (trace_text last) → DoesLine number last text said old new
+pub data DoesLine (around : Around) (number : ℕ) (last : List Entry) (text said : List ℕ) (old new : WireView) : Type 0 where
+  Carried : CarriesLine number text said old new → DoesLine around number last text said old new
+  Happened : (happened : WorldEvent) → deed_of text ≡ Ok (Happens happened) → HappensLine number happened old new → said ≡ printed (codes "ok") → DoesLine around number last text said old new
+  Made : (calls : BusLine) (words : List ℕ) → deed_of text ≡ Ok (Makes calls) → MakesLine number calls words old new → said ≡ printed words → DoesLine around number last text said old new
+  HasArmed : (call : ℕ) (event : WorldEvent) (result : Result (Unit {0}) ArmsFull) → deed_of text ≡ Ok (Arms call event) → ArmsLine number call event result old new → said ≡ printed (armed_text result) → DoesLine around number last text said old new
+  HasCut : (operation : ℕ) (torn : List ℕ) → deed_of text ≡ Ok (Cuts operation torn) → CutsLine number operation torn old new → said ≡ printed (codes "ok") → DoesLine around number last text said old new
+  Synced : (name words : List ℕ) → deed_of text ≡ Ok (Syncs name) → SyncsLine around number name words old new → said ≡ printed words → DoesLine around number last text said old new
+  Traced : deed_of text ≡ Ok Traces → MarksLine number old new → said ≡ printed (trace_text last) → DoesLine around number last text said old new
 
 -- a line that wants nothing was passed over
 pub record PassesOver (text said : List ℕ) (old new : WireView) : Type 0 where
@@ -128,14 +144,14 @@ pub record PassesOver (text said : List ℕ) (old new : WireView) : Type 0 where
   pub same : new ≡ old
 
 -- a line was passed over, or done; `own` are the entries of the last line that did something then
-pub data IsDone (number : ℕ) (last : List Entry) (text said : List ℕ) (old new : WireView) (own : List Entry) : Type 0 where
-  WasPassed : PassesOver text said old new → own ≡ last → IsDone number last text said old new own
-  WasDone : DoesLine number last text said old new → new.entries ≡ old.entries ++ own → IsDone number last text said old new own
+pub data IsDone (around : Around) (number : ℕ) (last : List Entry) (text said : List ℕ) (old new : WireView) (own : List Entry) : Type 0 where
+  WasPassed : PassesOver text said old new → own ≡ last → IsDone around number last text said old new own
+  WasDone : DoesLine around number last text said old new → new.entries ≡ old.entries ++ own → IsDone around number last text said old new own
 
 -- lines were done one after the other, the first of which has this number; `own` are the entries of the last one that did
 -- something then
-abbrev pub AreDone : ℕ → (last : List Entry) → List (List ℕ) → (said : List ℕ) → (old new : WireView) → (own : List Entry) → Type 0
-AreDone number last [] said old new own = (said ≡ []) × (new ≡ old) × (own ≡ last)
-AreDone number last (text ∷ texts) said old new own =
+abbrev pub AreDone : Around → ℕ → (last : List Entry) → List (List ℕ) → (said : List ℕ) → (old new : WireView) → (own : List Entry) → Type 0
+AreDone around number last [] said old new own = (said ≡ []) × (new ≡ old) × (own ≡ last)
+AreDone around number last (text ∷ texts) said old new own =
     (words more : List ℕ) × (middle : WireView) × (here : List Entry) × (said ≡ words ++ more)
-    × IsDone number last text words old middle here × AreDone (number + 1) here texts more middle new own
+    × IsDone around number last text words old middle here × AreDone around (number + 1) here texts more middle new own

@@ -6,12 +6,13 @@ use Rattle.ec_model.specs.declared.event.Entry.{Entry}
 use Rattle.ec_model.specs.Bench.{BenchCall, Happens as HappensNow, Marks, Arms as ArmsEvent, ArmsCut}
 use Rattle.ec_model.specs.Played.{PlayedAll}
 use Rattle.ec_wire.specs.Calls.{WireView, bench_of, is_host_call}
-use Rattle.ecbench.specs.Lines.{Deed, Nothing, Asks, Happens, Makes, Arms, Cuts, Traces, deed_of}
+use Rattle.ecbench.specs.Lines.{Deed, Nothing, Asks, Happens, Makes, Arms, Cuts, Syncs, Traces, deed_of}
 
 -- the calls that a line is behind its mark: those of the host, whatever they are; its event; or what it arms, taken or refused
 abbrev pub AreOwn : Deed → List BenchCall → Type 0
 AreOwn Nothing calls = ⊥
 AreOwn (Asks tool) calls = IsTrue (list_all is_host_call calls)
+AreOwn (Syncs name) calls = IsTrue (list_all is_host_call calls)
 AreOwn (Makes line) calls = IsTrue (list_all is_host_call calls)
 AreOwn (Happens happened) calls = calls ≡ HappensNow happened ∷ []
 AreOwn (Arms call event) calls = (taken : Bool) × (calls ≡ ArmsEvent call event taken ∷ [])

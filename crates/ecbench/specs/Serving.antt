@@ -11,12 +11,14 @@ use Rattle.bench_io.specs.declared.printing.PrintErr.TheVariants as print_err
 use Rattle.ectool_lines.specs.Texts.{printed}
 use Rattle.ectool_lines.specs.Running.{Appends, AppendsFront}
 use Rattle.script_lines.specs.declared.line.BusLine.{BusLine}
+use Rattle.sync_lines.specs.declared.line.SyncLineErr.{SyncLineErr}
+use Rattle.sync_lines.specs.declared.line.SyncLineErr.TheVariants as sync_err
 use Rattle.line_reader.specs.Finding.{ReaderView}
 use Rattle.line_reader.specs.declared.reader.Next.{Next}
 use Rattle.line_reader.specs.declared.reader.Next.TheVariants.{Line, Last, End, TooLong, Full}
 use Rattle.ecbench.specs.declared.run.Exit.{Exit}
-use Rattle.ecbench.specs.declared.run.Exit.TheVariants.{Done, BadLine, SinkFault, NoMemory, ScriptTooLong}
-use Rattle.ecbench.specs.Lines.{IsFaulty, MarksLine, HappensLine, MakesLine, ArmsLine, CutsLine, DoesLine, PassesOver, armed_text}
+use Rattle.ecbench.specs.declared.run.Exit.TheVariants.{Done, BadLine, SinkFault, ShelfFault, NoMemory, ScriptTooLong}
+use Rattle.ecbench.specs.Lines.{Around, Syncs, deed_of, IsFaulty, MarksLine, HappensLine, MakesLine, ArmsLine, CutsLine, SyncsLine, DoesLine, PassesOver, armed_text}
 use Rattle.ecbench.specs.Tracing.{trace_text}
 use Rattle.ecbench.specs.Scripts.{PlaysUpTo}
 use Rattle.ecbench.specs.Endings.{PowersOn}
@@ -31,23 +33,25 @@ BeginsLine (Ok done) number old new = MarksLine number old new
 BeginsLine (Err exit) number old new = (exit ≡ NoMemory) × (new ≡ old)
 
 -- a line was done, and printed
-pub record PrintsLine (number : ℕ) (last : List Entry) (line : List ℕ) (old new : WireView) (before after : Option (List ℕ)) : Type 0 where
+pub record PrintsLine (around : Around) (number : ℕ) (last : List Entry) (line : List ℕ) (old new : WireView) (before after : Option (List ℕ)) : Type 0 where
   pub text : List ℕ
-  pub does : DoesLine number last line text old new
+  pub does : DoesLine around number last line text old new
   pub printed : Appends text before after
 
--- what was done with a line: carried out and printed, or passed over; refused; carried out and printed in part; or marked at
--- most, since memory was refused
-abbrev pub ServesLine : Result (Unit {0}) Exit → ℕ → List Entry → List ℕ → WireView → WireView → (before after : Option (List ℕ)) → Type 0
-ServesLine (Ok done) number last line old new before after =
-    (PassesOver line [] old new × Appends [] before after) ⊎ PrintsLine number last line old new before after
-ServesLine (Err (BadLine at reason)) number last line old new before after =
+-- what was done with a line: carried out and printed, or passed over; refused; carried out and printed in part; marked, since
+-- the shelf failed; or marked at most, since memory was refused
+abbrev pub ServesLine : Around → Result (Unit {0}) Exit → ℕ → List Entry → List ℕ → WireView → WireView → (before after : Option (List ℕ)) → Type 0
+ServesLine around (Ok done) number last line old new before after =
+    (PassesOver line [] old new × Appends [] before after) ⊎ PrintsLine around number last line old new before after
+ServesLine around (Err (BadLine at reason)) number last line old new before after =
     (at ≡ number) × IsFaulty line reason × (new ≡ old) × Appends [] before after
-ServesLine (Err SinkFault) number last line old new before after =
-    (text : List ℕ) × DoesLine number last line text old new × AppendsFront text before after
-ServesLine (Err NoMemory) number last line old new before after =
+ServesLine around (Err SinkFault) number last line old new before after =
+    (text : List ℕ) × DoesLine around number last line text old new × AppendsFront text before after
+ServesLine around (Err ShelfFault) number last line old new before after =
+    (name : List ℕ) × (deed_of line ≡ Ok (Syncs name)) × MarksLine number old new × Appends [] before after
+ServesLine around (Err NoMemory) number last line old new before after =
     ((new ≡ old) ⊎ MarksLine number old new) × Appends [] before after
-ServesLine (Err other) number last line old new before after = ⊥
+ServesLine around (Err other) number last line old new before after = ⊥
 
 -- the exit that ends a script before a line of it, if there is one
 abbrev pub exit_at : Next → ℕ → Option Exit
@@ -101,6 +105,24 @@ ServesCut (Err SinkFault) number operation torn old new before after =
 ServesCut (Err NoMemory) number operation torn old new before after = (new ≡ old) × Appends [] before after
 ServesCut (Err other) number operation torn old new before after = ⊥
 
+-- what was done with an image that is to be synced: it was, and its text was printed, whole or in part; or the shelf failed, and
+-- the line was marked; or memory was refused, and it was marked at most
+abbrev pub ServesSync : Result (Unit {0}) Exit → Around → (number : ℕ) → (name : List ℕ) → WireView → WireView → (before after : Option (List ℕ)) → Type 0
+ServesSync (Ok done) around number name old new before after =
+    (words : List ℕ) × SyncsLine around number name words old new × Appends (printed words) before after
+ServesSync (Err SinkFault) around number name old new before after =
+    (words : List ℕ) × SyncsLine around number name words old new × AppendsFront (printed words) before after
+ServesSync (Err ShelfFault) around number name old new before after = MarksLine number old new × Appends [] before after
+ServesSync (Err NoMemory) around number name old new before after =
+    ((new ≡ old) ⊎ MarksLine number old new) × Appends [] before after
+ServesSync (Err other) around number name old new before after = ⊥
+
+-- the exit that ends a script where a line was not synced and printed whole
+abbrev pub exit_of_sync : SyncLineErr → Exit
+exit_of_sync sync_err.Shelf = ShelfFault
+exit_of_sync sync_err.Sink = SinkFault
+exit_of_sync sync_err.NoMemory = NoMemory
+
 -- what was done with entries that are to be counted
 abbrev pub ServesTrace : Result (Unit {0}) Exit → (number : ℕ) → (last : List Entry) → WireView → WireView → (before after : Option (List ℕ)) → Type 0
 ServesTrace (Ok done) number last old new before after =
@@ -111,10 +133,10 @@ ServesTrace (Err NoMemory) number last old new before after = (new ≡ old) × A
 ServesTrace (Err other) number last old new before after = ⊥
 
 -- a script was served as far as the exit says
-pub record Serves (exit : Exit) (old new : WireView) (left rest before after : Option (List ℕ)) : Type 0 where
+pub record Serves (around : Around) (exit : Exit) (old new : WireView) (left rest before after : Option (List ℕ)) : Type 0 where
   pub own : List Entry
   pub extends : Extends own old new
-  pub plays : PlaysUpTo old.entries exit old new left rest before after
+  pub plays : PlaysUpTo around old.entries exit old new left rest before after
 
 -- nothing was done
 pub record DoesNothing (old new : WireView) (left rest before after : Option (List ℕ)) : Type 0 where
@@ -123,14 +145,14 @@ pub record DoesNothing (old new : WireView) (left rest before after : Option (Li
   pub unprinted : Appends [] before after
 
 -- room was made, power came, and a script was served
-pub record PowersAndServes (exit : Exit) (old new : WireView) (left rest before after : Option (List ℕ)) : Type 0 where
+pub record PowersAndServes (around : Around) (exit : Exit) (old new : WireView) (left rest before after : Option (List ℕ)) : Type 0 where
   pub spare : ℕ
   pub powered : WireView
   pub powers : PowersOn (with_spare spare old) powered
-  pub serves : Serves exit powered new left rest before after
+  pub serves : Serves around exit powered new left rest before after
 
 -- the whole of it, or nothing, since memory was refused
-abbrev pub Drives : Exit → WireView → WireView → (left rest before after : Option (List ℕ)) → Type 0
-Drives NoMemory old new left rest before after =
-    DoesNothing old new left rest before after ⊎ PowersAndServes NoMemory old new left rest before after
-Drives exit old new left rest before after = PowersAndServes exit old new left rest before after
+abbrev pub Drives : Around → Exit → WireView → WireView → (left rest before after : Option (List ℕ)) → Type 0
+Drives around NoMemory old new left rest before after =
+    DoesNothing old new left rest before after ⊎ PowersAndServes around NoMemory old new left rest before after
+Drives around exit old new left rest before after = PowersAndServes around exit old new left rest before after

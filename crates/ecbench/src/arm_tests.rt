@@ -4,6 +4,7 @@ ghost use Rattle.std.specs.Prelude.{◌≤◌, ◌+◌};
 use crate::run::{Exit, run};
 use crate::testing::{ERASED, plays_by, plays_whole};
 use bench_io::{MemSink, MemSource};
+use bench_shelf::MemShelf;
 use bench_words::Word;
 use flash_dev::MemFlash;
 use std::process::Abort;
@@ -176,7 +177,15 @@ fn cuts<R: Abort + AllocGlobal>(
     let mut source = MemSource::new(rt.alloc(), script.as_slice(), &[])?;
     let mut sink = MemSink::new(rt.alloc(), 9000, &[])?;
     let word = Word::new(rt.alloc(), b"flash")?;
-    let ended = run(rt.alloc(), &[word], held, &mut source, &mut sink);
+    let mut shelf = MemShelf::new(rt.alloc(), &[])?;
+    let ended = run(
+        rt.alloc(),
+        &[word],
+        held,
+        &mut source,
+        &mut sink,
+        &mut shelf,
+    );
     assert_eq!(rt; ended.exit, Exit::Done);
     assert_eq!(rt;
         ended.flash.bytes() == flash.as_slice(),

@@ -2,6 +2,7 @@
 use crate::run::{Exit, run};
 use crate::testing::ERASED;
 use bench_io::{MemSink, MemSource};
+use bench_shelf::MemShelf;
 use bench_words::Word;
 use flash_dev::MemFlash;
 use std::process::Abort;
@@ -25,7 +26,15 @@ fn fetched_by<R: Abort + AllocGlobal>(
     let mut source = MemSource::new(rt.alloc(), script, &[])?;
     let mut sink = MemSink::new(rt.alloc(), 9000, &[])?;
     let word = Word::new(rt.alloc(), b"flash")?;
-    let ended = run(rt.alloc(), &[word], flash, &mut source, &mut sink);
+    let mut shelf = MemShelf::new(rt.alloc(), &[])?;
+    let ended = run(
+        rt.alloc(),
+        &[word],
+        flash,
+        &mut source,
+        &mut sink,
+        &mut shelf,
+    );
     assert_eq!(rt; ended.exit, Exit::Done);
     if let Some(text) = text {
         assert_eq!(rt; sink.bytes(), text);

@@ -17,6 +17,10 @@ mod image_tests;
 mod marking;
 mod run;
 mod serving;
+mod setup;
+#[cfg(test)]
+mod sync_tests;
+mod syncing;
 mod telling;
 #[cfg(test)]
 mod testing;
@@ -27,6 +31,7 @@ mod tracing;
 mod upset_tests;
 
 use bench_io::{FileFlash, StdSink, StdSource};
+use bench_shelf::FileShelf;
 use bench_words::Word;
 use run::{Exit, run};
 use std::alloc::Global;
@@ -35,7 +40,7 @@ use std::fmt::Display;
 use std::fs::{self, File};
 use std::io;
 use std::process::ExitCode;
-use telling::{FaultyLine, FaultyWords, fault_of};
+use telling::{FaultyLine, FaultyWords, fault_of, image_of};
 
 /// The exit status where the flash file cannot be opened.
 const NOT_OPENED: u8 = 1;
@@ -67,13 +72,22 @@ fn main(rt: HostRuntime) -> ExitCode {
     };
     let mut source = StdSource::new(rt.reader());
     let mut sink = StdSink::new(io::writer(&rt));
-    let ended = run(rt.alloc(), words.as_slice(), flash, &mut source, &mut sink);
+    let mut shelf = FileShelf::new(&rt);
+    let ended = run(
+        rt.alloc(),
+        words.as_slice(),
+        flash,
+        &mut source,
+        &mut sink,
+        &mut shelf,
+    );
     match ended.exit {
         Exit::BadWords => told_usage(&rt, &faulty),
         Exit::BadFlash => told_with_size(&rt, path, Exit::BadFlash),
         Exit::BadLine { line, .. } => told_line(&rt, ended.exit, line, ended.reader.line()),
         Exit::SourceFault => told_with_cause(&rt, Exit::SourceFault, source.error()),
         Exit::SinkFault => told_with_cause(&rt, Exit::SinkFault, sink.error()),
+        Exit::ShelfFault => told_image(&rt, ended.exit, ended.reader.line()),
         exit => told(&rt, exit),
     }
 }
@@ -140,6 +154,12 @@ fn told_line(rt: &HostRuntime, exit: Exit, number: u32, line: &[u8]) -> ExitCode
         fault,
     };
     let _ = eprintln!(rt; "ecbench: {faulty}");
+    ExitCode::from(exit.status())
+}
+
+// The status of a line whose image could not be read: the image is named.
+fn told_image(rt: &HostRuntime, exit: Exit, line: &[u8]) -> ExitCode {
+    let _ = eprintln!(rt; "ecbench: {}: {exit}", image_of(line));
     ExitCode::from(exit.status())
 }
 

@@ -12,11 +12,13 @@ ghost use Rattle.ecbench.specs.Endings.{
   GuardsRun,
 };
 ghost use Rattle.ecbench.specs.Statuses.{exit_status};
-ghost use Rattle.ecbench.specs.Serving.{exit_of};
+ghost use Rattle.ecbench.specs.Serving.{exit_of, exit_of_sync};
 ghost use Rattle.ecbench.specs.declared.run.Exit.TheVariants as exits;
 
 use crate::serving::drive;
+use crate::setup::Setup;
 use bench_io::{PrintErr, Sink, Source};
+use bench_shelf::Shelf;
 use bench_wire::Bench;
 use bench_words::{Word, WordsErr};
 use bus_i2c::I2c;
@@ -28,6 +30,7 @@ use ec_wire::{Bus, Journal};
 use flash_dev::{CutFlash, FlashDev, Geometry, Tear};
 use line_reader::LineReader;
 use std::alloc::{AllocError, Global};
+use sync_lines::SyncLineErr;
 use thiserror::Error;
 
 /// How a run ended.
@@ -51,6 +54,9 @@ pub enum Exit {
     /// The sink failed: a line was carried out, and the first bytes of its text were written, but not all.
     #[error("the text could not be written")]
     SinkFault,
+    /// The shelf failed, or has no image of the name; the lines before were carried out, and of this one nothing was sent.
+    #[error("the image could not be read")]
+    ShelfFault,
     /// Memory was refused; the lines before were carried out.
     #[error("out of memory")]
     NoMemory,
@@ -71,6 +77,7 @@ impl Exit {
             Exit::BadLine { .. } => 4,
             Exit::SourceFault => 5,
             Exit::SinkFault => 6,
+            Exit::ShelfFault => 7,
             Exit::NoMemory => 8,
             Exit::ScriptTooLong => 9,
         }
@@ -96,6 +103,18 @@ impl From<PrintErr> for Exit {
     }
 }
 
+impl From<SyncLineErr> for Exit {
+    ghost from_gives = { λ error exit. exit ≡ exit_of_sync error };
+
+    fn from(error: SyncLineErr) -> Exit {
+        match error {
+            SyncLineErr::Shelf => Exit::ShelfFault,
+            SyncLineErr::Sink => Exit::SinkFault,
+            SyncLineErr::NoMemory => Exit::NoMemory,
+        }
+    }
+}
+
 /// How a run ended, with the flash as the controller left it, the journal of all that happened, and the script's
 /// reader, which has the line that was read last.
 #[derive(Drop)]
@@ -107,17 +126,18 @@ pub struct Ended<F> {
 }
 
 /// Carries out the script of the source, line by line, on a controller with this flash, which is off at first. The words
-/// name the flash file, the bus, and whether the write-protect pin is asserted at first.
-pub fn run<F: Tear, S: Source, K: Sink>(
+/// name the flash file, the bus, and whether the write-protect pin is asserted at first. Images come from the shelf.
+pub fn run<F: Tear, S: Source, K: Sink, H: Shelf>(
     alloc: Global,
     words: &[Word],
     flash: F,
     source: &mut S,
     sink: &mut K,
+    shelf: &mut H,
 ) -> Ended<F>
-    // What each exit says of the words, the flash, the script, the printed bytes and the journal: which lines were done, and
-    // how each of them led from what the bench showed to what it shows then.
-    ensures ends { Ends result.exit words.now (F.seen flash) (F.seen result.flash) (S.left source.old)
+    // What each exit says of the words, the flash, the shelf, the script, the printed bytes and the journal: which lines were
+    // done, and how each of them led from what the bench showed to what it shows then.
+    ensures ends { Ends (H.files shelf.old) result.exit words.now (F.seen flash) (F.seen result.flash) (S.left source.old)
         (S.left source.new) (K.written sink.old) (K.written sink.new) result.journal.entries }
     // The journal is a run of the controller, from the flash as it came to the flash as it is handed back.
     ensures run { WhereSpelled words.now (λ bus pin. RunsTo bus pin result.journal.entries (F.seen flash).held
@@ -138,6 +158,7 @@ pub fn run<F: Tear, S: Source, K: Sink>(
     // No fault is made up.
     ensures source_fault { result.exit ≡ Exit.SourceFault → Rose (S.faults source.old) (S.faults source.new) }
     ensures sink_fault { result.exit ≡ Exit.SinkFault → Rose (K.faults sink.old) (K.faults sink.new) }
+    ensures shelf_fault { result.exit ≡ Exit.ShelfFault → Rose (H.faults shelf.old) (H.faults shelf.new) }
 {
     let read = match bench_words::read(alloc, words) {
         Ok(read) => read,
@@ -147,11 +168,13 @@ pub fn run<F: Tear, S: Source, K: Sink>(
     let Some(geometry) = Geometry::new(flash.size()) else {
         return refused(alloc, Exit::BadFlash, flash);
     };
-    carry_by(alloc, flash, geometry, read.bus, read.pin, source, sink)
+    carry_by(
+        alloc, flash, geometry, read.bus, read.pin, source, sink, shelf,
+    )
 }
 
 // Carries out the script on a controller on this bus.
-fn carry_by<F: Tear, S: Source, K: Sink>(
+fn carry_by<F: Tear, S: Source, K: Sink, H: Shelf>(
     alloc: Global,
     flash: F,
     geometry: Geometry,
@@ -159,41 +182,52 @@ fn carry_by<F: Tear, S: Source, K: Sink>(
     pin: bool,
     source: &mut S,
     sink: &mut K,
+    shelf: &mut H,
 ) -> Ended<F>
     requires size { geometry ≡ (F.seen flash).extent }
     requires allowed { IsTrue (is_flash_size (F.seen flash).extent) }
-    ensures carries { CarriesScript bus pin result.exit (F.seen flash) (F.seen result.flash) (S.left source.old)
+    ensures carries { CarriesScript (H.files shelf.old) bus pin result.exit (F.seen flash) (F.seen result.flash) (S.left source.old)
         (S.left source.new) (K.written sink.old) (K.written sink.new) result.journal.entries }
     ensures source_fault { result.exit ≡ Exit.SourceFault → Rose (S.faults source.old) (S.faults source.new) }
     ensures sink_fault { result.exit ≡ Exit.SinkFault → Rose (K.faults sink.old) (K.faults sink.new) }
+    ensures shelf_fault { result.exit ≡ Exit.ShelfFault → Rose (H.faults shelf.old) (H.faults shelf.new) }
 {
     match bus {
-        BusKind::Lpc => carry_on::<Lpc, F, S, K>(alloc, flash, geometry, pin, source, sink),
-        BusKind::I2c => carry_on::<I2c, F, S, K>(alloc, flash, geometry, pin, source, sink),
-        BusKind::Spi => carry_on::<Spi, F, S, K>(alloc, flash, geometry, pin, source, sink),
+        BusKind::Lpc => carry_on::<Lpc, F, S, K, H>(
+            alloc, flash, geometry, pin, source, sink, shelf,
+        ),
+        BusKind::I2c => carry_on::<I2c, F, S, K, H>(
+            alloc, flash, geometry, pin, source, sink, shelf,
+        ),
+        BusKind::Spi => carry_on::<Spi, F, S, K, H>(
+            alloc, flash, geometry, pin, source, sink, shelf,
+        ),
     }
 }
 
 // The same, on a bus that is known.
-fn carry_on<B: Bus + Drop, F: Tear, S: Source, K: Sink>(
+fn carry_on<B: Bus + Drop, F: Tear, S: Source, K: Sink, H: Shelf>(
     alloc: Global,
     flash: F,
     geometry: Geometry,
     pin: bool,
     source: &mut S,
     sink: &mut K,
+    shelf: &mut H,
 ) -> Ended<F>
     requires size { geometry ≡ (F.seen flash).extent }
     requires allowed { IsTrue (is_flash_size (F.seen flash).extent) }
-    ensures carries { CarriesScript B.bus pin result.exit (F.seen flash) (F.seen result.flash) (S.left source.old)
+    ensures carries { CarriesScript (H.files shelf.old) B.bus pin result.exit (F.seen flash) (F.seen result.flash) (S.left source.old)
         (S.left source.new) (K.written sink.old) (K.written sink.new) result.journal.entries }
     ensures source_fault { result.exit ≡ Exit.SourceFault → Rose (S.faults source.old) (S.faults source.new) }
     ensures sink_fault { result.exit ≡ Exit.SinkFault → Rose (K.faults sink.old) (K.faults sink.new) }
+    ensures shelf_fault { result.exit ≡ Exit.ShelfFault → Rose (H.faults shelf.old) (H.faults shelf.new) }
 {
     let ec = Ec::new(CutFlash::new(flash), geometry, pin);
     let mut bench: Bench<B, CutFlash<F>> = Bench::new(alloc, ec);
     let mut reader = LineReader::new();
-    let exit = drive(&mut bench, &mut reader, source, sink);
+    let setup = Setup { alloc, geometry };
+    let exit = drive(&mut bench, &setup, &mut reader, source, sink, shelf);
     let (flash, journal) = bench.finish();
     Ended {
         exit,

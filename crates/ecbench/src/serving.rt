@@ -9,14 +9,18 @@ ghost use Rattle.script_lines.specs.Lines.{line_of};
 ghost use Rattle.script_words.specs.Faults.{kind_of};
 ghost use Rattle.ecbench.specs.declared.run.Exit.TheVariants.{BadLine};
 ghost use Rattle.ecbench.specs.Endings.{PowersOn};
+ghost use Rattle.ecbench.specs.Lines.{Around};
 ghost use Rattle.ecbench.specs.Serving.{fresh_reader, Drives, Serves, ServesLine, ServesEvent, exit_at};
 
 use crate::arming::{MOST_TORN, serve_at, serve_cut};
 use crate::calling::serve_calls;
 use crate::marking::begin;
 use crate::run::Exit;
+use crate::setup::Setup;
+use crate::syncing::serve_sync;
 use crate::tracing::serve_trace;
 use bench_io::{Sink, Source, print};
+use bench_shelf::Shelf;
 use bench_wire::Bench;
 use ec_model::WorldEvent;
 use ec_types::Why;
@@ -31,25 +35,29 @@ use script_words::Fault;
 const MOST_LINES: u32 = 16_777_217;
 
 /// Makes room in the journal for the power-on, and serves the script.
-pub fn drive<B: Bus + Drop, F: Tear, S: Source, K: Sink>(
+pub fn drive<B: Bus + Drop, F: Tear, S: Source, K: Sink, H: Shelf>(
     bench: &mut Bench<B, CutFlash<F>>,
+    setup: &Setup,
     reader: &mut LineReader,
     source: &mut S,
     sink: &mut K,
+    shelf: &mut H,
 ) -> Exit
     requires off { bench.old.controller.on ≡ false }
     requires fresh { reader.old ≡ fresh_reader }
-    ensures drives { Drives result (wire_view B.bus bench.old) (wire_view B.bus bench.new) (S.left source.old)
-        (S.left source.new) (K.written sink.old) (K.written sink.new) }
+    ensures drives { Drives (record { size = setup.now.geometry; files = H.files shelf.old }) result
+        (wire_view B.bus bench.old) (wire_view B.bus bench.new) (S.left source.old) (S.left source.new)
+        (K.written sink.old) (K.written sink.new) }
     ensures source_fault { result ≡ Exit.SourceFault → Rose (S.faults source.old) (S.faults source.new) }
     ensures sink_fault { result ≡ Exit.SinkFault → Rose (K.faults sink.old) (K.faults sink.new) }
+    ensures shelf_fault { result ≡ Exit.ShelfFault → Rose (H.faults shelf.old) (H.faults shelf.new) }
 {
     match bench.reserve(1) {
         Ok(()) => {}
         Err(_) => return Exit::NoMemory,
     }
     power_on(bench);
-    serve(bench, reader, source, sink)
+    serve(bench, setup, reader, source, sink, shelf)
 }
 
 // Powers the controller on.
@@ -62,17 +70,21 @@ fn power_on<B: Bus + Drop, F: FlashDev>(bench: &mut Bench<B, F>)
 }
 
 // Reads the script line by line, and carries out each line before the next one is read.
-fn serve<B: Bus + Drop, F: Tear, S: Source, K: Sink>(
+fn serve<B: Bus + Drop, F: Tear, S: Source, K: Sink, H: Shelf>(
     bench: &mut Bench<B, CutFlash<F>>,
+    setup: &Setup,
     reader: &mut LineReader,
     source: &mut S,
     sink: &mut K,
+    shelf: &mut H,
 ) -> Exit
     requires { reader.old ≡ fresh_reader }
-    ensures serves { Serves result (wire_view B.bus bench.old) (wire_view B.bus bench.new) (S.left source.old)
-        (S.left source.new) (K.written sink.old) (K.written sink.new) }
+    ensures serves { Serves (record { size = setup.now.geometry; files = H.files shelf.old }) result
+        (wire_view B.bus bench.old) (wire_view B.bus bench.new) (S.left source.old) (S.left source.new)
+        (K.written sink.old) (K.written sink.new) }
     ensures source_fault { result ≡ Exit.SourceFault → Rose (S.faults source.old) (S.faults source.new) }
     ensures sink_fault { result ≡ Exit.SinkFault → Rose (K.faults sink.old) (K.faults sink.new) }
+    ensures shelf_fault { result ≡ Exit.ShelfFault → Rose (H.faults shelf.old) (H.faults shelf.new) }
 {
     let mut room = Room {
         buffers: Buffers::new(),
@@ -88,7 +100,8 @@ fn serve<B: Bus + Drop, F: Tear, S: Source, K: Sink>(
             return exit;
         }
         let start = bench.journal().len();
-        if let Err(exit) = serve_line(bench, number, since, reader.line(), &mut room, sink) {
+        let place = Place { number, since };
+        if let Err(exit) = serve_line(bench, setup, place, reader.line(), &mut room, sink, shelf) {
             return exit;
         }
         since = since_line(since, start, bench.journal().len());
@@ -135,22 +148,34 @@ struct Room {
     torn: [u8; MOST_TORN],
 }
 
-// Does a line, passes over one that does nothing, or refuses one that is outside the grammar. The last line before that did
-// something has the entries from `since` on.
-fn serve_line<B: Bus + Drop, F: Tear, K: Sink>(
-    bench: &mut Bench<B, CutFlash<F>>,
+// Where a line stands: its number, counted from 1, and where in the journal the last line before begins that did something.
+#[derive(Clone, Copy)]
+struct Place {
     number: u32,
     since: usize,
+}
+
+// Does a line, passes over one that does nothing, or refuses one that is outside the grammar.
+fn serve_line<B: Bus + Drop, F: Tear, K: Sink, H: Shelf>(
+    bench: &mut Bench<B, CutFlash<F>>,
+    setup: &Setup,
+    place: Place,
     line: &[u8],
     room: &mut Room,
     sink: &mut K,
+    shelf: &mut H,
 ) -> Result<(), Exit>
-    requires { since ≤ length bench.old.entries }
-    ensures serves { ServesLine result number (drop since bench.old.entries) line.now (wire_view B.bus bench.old)
-        (wire_view B.bus bench.new) (K.written sink.old) (K.written sink.new) }
+    requires { place.since ≤ length bench.old.entries }
+    ensures serves { ServesLine (record { size = setup.now.geometry; files = H.files shelf.old }) result place.number
+        (drop place.since bench.old.entries) line.now (wire_view B.bus bench.old) (wire_view B.bus bench.new)
+        (K.written sink.old) (K.written sink.new) }
+    ensures files { H.files shelf.new ≡ H.files shelf.old }
+    ensures shelf_fault { result ≡ Err Exit.ShelfFault → Rose (H.faults shelf.old) (H.faults shelf.new) }
+    ensures shelf_later { H.faults shelf.old ≤ H.faults shelf.new }
     ensures sink_fault { result ≡ Err Exit.SinkFault → Rose (K.faults sink.old) (K.faults sink.new) }
     ensures later { K.faults sink.old ≤ K.faults sink.new }
 {
+    let number = place.number;
     match script_lines::parse(line) {
         Ok(Line::Nothing) => Ok(()),
         Ok(Line::Tool) => serve_tool(bench, number, line, &mut room.buffers, sink),
@@ -162,7 +187,11 @@ fn serve_line<B: Bus + Drop, F: Tear, K: Sink>(
         Ok(Line::Cut { operation, torn }) => {
             serve_cut(bench, number, operation, &torn, &mut room.torn, sink)
         }
-        Ok(Line::Trace) => serve_trace(bench, number, since, &mut room.buffers.text, sink),
+        Ok(Line::Sync { name }) => {
+            let text = &mut room.buffers.text;
+            serve_sync(bench, setup, number, name.as_bytes(), text, sink, shelf)
+        }
+        Ok(Line::Trace) => serve_trace(bench, number, place.since, &mut room.buffers.text, sink),
         Err(fault) => Err(bad_line(number, fault)),
     }
 }
@@ -186,7 +215,8 @@ fn serve_tool<B: Bus + Drop, F: FlashDev, K: Sink>(
     sink: &mut K,
 ) -> Result<(), Exit>
     requires { line_of line.now ≡ Ok Line.Tool }
-    ensures serves { (last : List Entry) → ServesLine result number last line.now (wire_view B.bus bench.old)
+    ensures no_shelf { ¬ (result ≡ Err Exit.ShelfFault) }
+    ensures serves { (around : Around) (last : List Entry) → ServesLine around result number last line.now (wire_view B.bus bench.old)
         (wire_view B.bus bench.new) (K.written sink.old) (K.written sink.new) }
     ensures sink_fault { result ≡ Err Exit.SinkFault → Rose (K.faults sink.old) (K.faults sink.new) }
     ensures later { K.faults sink.old ≤ K.faults sink.new }

@@ -58,6 +58,14 @@ impl<'a> fmt::Display for FaultyLine<'a> {
     }
 }
 
+/// The name of the image that a line syncs; empty where it syncs none.
+pub fn image_of(line: &[u8]) -> &str {
+    match script_lines::parse(line) {
+        Ok(Line::Sync { name }) => str::from_utf8(name.as_bytes()).unwrap_or(""),
+        _ => "",
+    }
+}
+
 /// What is wrong with the words of the command line, as it is told.
 #[derive(Drop)]
 pub struct FaultyWords<'a> {

@@ -1,6 +1,7 @@
 // What tests of whole runs share.
 use crate::run::{Exit, run};
 use bench_io::{MemSink, MemSource};
+use bench_shelf::MemShelf;
 use bench_words::Word;
 use flash_dev::{FlashDev, MemFlash, Tear};
 use std::process::Abort;
@@ -27,7 +28,15 @@ pub fn plays<R: Abort + AllocGlobal, F: Tear + Drop>(
     let mut source = MemSource::new(rt.alloc(), script, fails.0)?;
     let mut sink = MemSink::new(rt.alloc(), 9000, fails.1)?;
     let word = Word::new(rt.alloc(), b"flash")?;
-    let ended = run(rt.alloc(), &[word], flash, &mut source, &mut sink);
+    let mut shelf = MemShelf::new(rt.alloc(), &[])?;
+    let ended = run(
+        rt.alloc(),
+        &[word],
+        flash,
+        &mut source,
+        &mut sink,
+        &mut shelf,
+    );
     let size = script.len();
     assert_eq!(rt; ended.exit, want.0, "script of {size} bytes");
     assert_eq!(rt; sink.bytes(), want.1, "script of {size} bytes");
@@ -60,7 +69,15 @@ pub fn plays_by<R: Abort + AllocGlobal>(
     let flash = MemFlash::new(rt.alloc(), &ERASED, &[])?;
     let mut source = MemSource::new(rt.alloc(), script, &[])?;
     let mut sink = MemSink::new(rt.alloc(), 9000, &[])?;
-    let ended = run(rt.alloc(), list.as_slice(), flash, &mut source, &mut sink);
+    let mut shelf = MemShelf::new(rt.alloc(), &[])?;
+    let ended = run(
+        rt.alloc(),
+        list.as_slice(),
+        flash,
+        &mut source,
+        &mut sink,
+        &mut shelf,
+    );
     assert_eq!(rt; ended.exit, exit);
     assert_eq!(rt; sink.bytes(), text);
     Ok(())

@@ -6,6 +6,7 @@ use crate::run::{Exit, run};
 use crate::telling::{FaultyLine, FaultyWords, fault_of};
 use crate::testing::{ERASED, plays, plays_whole, store};
 use bench_io::{MemSink, MemSource};
+use bench_shelf::MemShelf;
 use bench_words::Word;
 use ec_model::{Access, Entry, Event};
 use ec_types::Why;
@@ -298,7 +299,15 @@ fn refuses<R: Abort + AllocGlobal>(
     let mut source = MemSource::new(rt.alloc(), b"hello", &[])?;
     let mut sink = MemSink::new(rt.alloc(), 100, &[])?;
     let word = Word::new(rt.alloc(), word)?;
-    let ended = run(rt.alloc(), &[word], flash, &mut source, &mut sink);
+    let mut shelf = MemShelf::new(rt.alloc(), &[])?;
+    let ended = run(
+        rt.alloc(),
+        &[word],
+        flash,
+        &mut source,
+        &mut sink,
+        &mut shelf,
+    );
     assert_eq!(rt; ended.exit, exit);
     assert_eq!(rt; source.taken(), 0);
     Ok(())
@@ -319,7 +328,15 @@ fn the_packets_are_on_the_bus(rt: HostRuntime) -> Result<(), Fail> {
     let mut source = MemSource::new(rt.alloc(), b"hello\n", &[])?;
     let mut sink = MemSink::new(rt.alloc(), 100, &[])?;
     let word = Word::new(rt.alloc(), b"flash")?;
-    let ended = run(rt.alloc(), &[word], flash, &mut source, &mut sink);
+    let mut shelf = MemShelf::new(rt.alloc(), &[])?;
+    let ended = run(
+        rt.alloc(),
+        &[word],
+        flash,
+        &mut source,
+        &mut sink,
+        &mut shelf,
+    );
     let mut request = Vec::new(rt.alloc());
     let mut response = Vec::new(rt.alloc());
     for i in 0..ended.journal.len() {

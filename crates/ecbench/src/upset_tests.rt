@@ -2,6 +2,7 @@
 use crate::run::{Exit, run};
 use crate::testing::ERASED;
 use bench_io::{LineText, MemSink, MemSource};
+use bench_shelf::MemShelf;
 use bench_words::Word;
 use flash_dev::MemFlash;
 use std::alloc::Global;
@@ -163,7 +164,15 @@ impl Play {
         let flash = MemFlash::new(rt.alloc(), &ERASED, &[])?;
         let mut source = MemSource::new(rt.alloc(), self.script.as_slice(), &[])?;
         let mut sink = MemSink::new(rt.alloc(), 1_000_000, &[])?;
-        let ended = run(rt.alloc(), words.as_slice(), flash, &mut source, &mut sink);
+        let mut shelf = MemShelf::new(rt.alloc(), &[])?;
+        let ended = run(
+            rt.alloc(),
+            words.as_slice(),
+            flash,
+            &mut source,
+            &mut sink,
+            &mut shelf,
+        );
         assert_eq!(rt; ended.exit, Exit::Done);
         assert!(rt; sink.bytes() == self.text.as_slice());
         Ok(())

@@ -1,9 +1,10 @@
 -- The lines of a script that are no tool lines.
-use Rattle.std.specs.Prelude.{ℕ, ◌+◌, ◌≤◌, Bool, true, false, List, [], ◌∷◌, length, codes, Option, Some, None, Result, Ok, Err, nat_le, if◌then◌else◌}
+use Rattle.std.specs.Prelude.{ℕ, ◌+◌, ◌≤◌, ◌==◌, ◌&&◌, not, Bool, true, false, List, [], ◌∷◌, length, codes, Option, Some, None, Result, Ok, Err, nat_le, if◌then◌else◌}
+use Rattle.std.specs.List.{list_any}
 use Rattle.std.specs.Option.{ok_or}
 use Rattle.std.specs.Str.{bytes_eq}
 use Rattle.ec_types.specs.declared.why.Why.{Why}
-use Rattle.ec_types.specs.declared.why.Why.TheVariants.{Word, Count, Number}
+use Rattle.ec_types.specs.declared.why.Why.TheVariants.{Word, Count, Number, Hex}
 use Rattle.ec_model.specs.declared.event.WorldEvent.{WorldEvent}
 use Rattle.ec_model.specs.declared.event.WorldEvent.TheVariants as world
 use Rattle.ec_model.specs.declared.event.WorldReset.{WorldReset}
@@ -12,7 +13,7 @@ use Rattle.script_words.specs.Words.{words_of}
 use Rattle.script_words.specs.Lines.{checked, does_nothing}
 use Rattle.script_words.specs.Forms.{◌>>=◌, no_words, one_word, two_words, three_words, alone, with_one, number_to, count_to, hex_to}
 use Rattle.script_lines.specs.declared.line.Line.{Line}
-use Rattle.script_lines.specs.declared.line.Line.TheVariants.{Nothing, Tool, Pin, Power, Reset, Cut, At, Trace, Bus}
+use Rattle.script_lines.specs.declared.line.Line.TheVariants.{Nothing, Tool, Pin, Power, Reset, Cut, At, Sync, Trace, Bus}
 use Rattle.script_lines.specs.declared.line.BusLine.{BusLine}
 use Rattle.script_lines.specs.declared.line.BusLine.TheVariants.{Tick, PortsOut, PortsIn, I2cWrite, I2cRead, SpiSelect, SpiDeselect, SpiBytes}
 
@@ -93,6 +94,14 @@ abbrev pub at_by : List (List ℕ) → Result Line Why
 at_by words =
     three_words words >>= λ all. count_to 0xFFFFFFFF all.0 >>= λ call. event_to all.1 all.2 >>= λ event. Ok (At call event)
 
+-- whether a word is a name: it has at most 255 bytes, none of which is `/`
+abbrev pub is_name : List ℕ → Bool
+is_name word = nat_le (length word) 255 && not (list_any (λ byte. byte == 47) word)
+
+-- a word that is a name
+abbrev pub name_to : List ℕ → Result (List ℕ) Why
+name_to word = if is_name word then Ok word else Err Hex
+
 -- a line by its words: the first one, how many stand behind it, and what each of these is
 abbrev pub line_by : List (List ℕ) → Result Line Why
 line_by [] = Ok Tool
@@ -108,6 +117,7 @@ line_by (first ∷ words) =
     if bytes_eq first (codes "i2cw") then (with_one (hex_to 8192) I2cWrite words >>= λ calls. Ok (Bus calls)) else
     if bytes_eq first (codes "i2cr") then (with_one (count_to 4096) I2cRead words >>= λ calls. Ok (Bus calls)) else
     if bytes_eq first (codes "spi") then (spi_by words >>= λ calls. Ok (Bus calls)) else
+    if bytes_eq first (codes "sync") then with_one name_to Sync words else
     if bytes_eq first (codes "trace") then alone Trace words else
     Ok Tool
 

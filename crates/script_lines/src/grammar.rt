@@ -18,13 +18,14 @@ ghost use Rattle.script_lines.specs.Lines.{
   cut_behind,
   event_to,
   at_by,
+  name_to,
   line_of,
   line_by,
   IsInRange,
   IsLineInRange,
 };
 
-use crate::{BusLine, Line};
+use crate::{BusLine, Line, Name};
 use ec_model::{WorldEvent, WorldReset};
 use script_words::{
     Fault, HexBytes, Wanted, check_line, count_to, is_word, next_word, no_words, none_or,
@@ -84,6 +85,8 @@ fn by_words<'a>(first: &[u8], rest: &'a [u8]) -> Result<Line<'a>, Fault>
         Ok(Line::Bus(i2c_read(rest)?))
     } else if is_word(first, b"spi") {
         Ok(Line::Bus(spi(rest)?))
+    } else if is_word(first, b"sync") {
+        sync(rest)
     } else if is_word(first, b"trace") {
         no_words(rest)?;
         Ok(Line::Trace)
@@ -223,6 +226,16 @@ fn event(kind: &[u8], detail: &[u8]) -> Result<WorldEvent, Fault>
     } else {
         Err(Fault::of_word(3, Wanted::WorldEvent))
     }
+}
+
+fn sync(words: &[u8]) -> Result<Line<'_>, Fault>
+    ensures line { by_kind result ≡ with_one name_to Line.Sync (words_of words.now) }
+    ensures within { IfOk result IsLineInRange }
+{
+    let name = one_word(words)?;
+    Ok(Line::Sync {
+        name: Name::of_word(2, name)?,
+    })
 }
 
 fn ports_out(words: &[u8]) -> Result<BusLine<'_>, Fault>

@@ -6,9 +6,11 @@
 
 mod grammar;
 mod line;
+mod name;
 
 pub use grammar::parse;
 pub use line::{BusLine, Line};
+pub use name::Name;
 
 #[cfg(test)]
 mod tests;

@@ -1,4 +1,5 @@
 // What a line says.
+use crate::Name;
 use ec_model::{WorldEvent, WorldReset};
 use script_words::HexBytes;
 
@@ -35,6 +36,11 @@ pub enum Line<'a> {
         /// Before which access or wait from now, counted from 1.
         call: u32,
         event: WorldEvent,
+    },
+    /// `sync NAME`: the host brings RW to an image of the shelf, to run.
+    Sync {
+        /// The image's name.
+        name: Name<'a>,
     },
     /// `trace`: the entries of the line before that did something are counted.
     Trace,

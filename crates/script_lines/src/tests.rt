@@ -144,6 +144,9 @@ fn the_first_fault_counts(rt: HostRuntime) {
         (b"at 1 pin up", Why::Word),
         (b"at 1 reset cold", Why::Word),
         (b"at 1 byte 256", Why::Number),
+        (b"sync", Why::Count),
+        (b"sync a b/c", Why::Count),
+        (b"sync b/c", Why::Hex),
         (b"trace 1", Why::Count),
         (b"out 1", Why::Count),
         (b"out 0x10000 0", Why::Number),
@@ -192,6 +195,7 @@ fn the_word_at_fault_is_told(rt: HostRuntime) {
         ),
         (b"out 0 0", 3, Wanted::Bytes { most: 8192 }),
         (b"in 65535 2", 3, Wanted::Ports),
+        (b"sync /a", 2, Wanted::Name),
         (b"at 1 pins on", 3, Wanted::WorldEvent),
         (b"at 1 pin up", 4, Wanted::Switch),
     ] {

@@ -29,6 +29,7 @@ kind_of wanted.Reboot = why.Word
 kind_of (wanted.Number least most) = why.Number
 kind_of (wanted.Bytes most) = why.Hex
 kind_of (wanted.SpiBytes most) = why.Hex
+kind_of wanted.Name = why.Hex
 kind_of wanted.Ports = why.Number
 
 -- what was read, or the kind of the first fault

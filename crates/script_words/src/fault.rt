@@ -14,7 +14,7 @@ pub enum Wanted {
     Printable,
     #[error("one of hello, version, chipinfo, cmdversions, protoinfo, flashinfo, regioninfo, flashread, flashwrite, \
              flasherase, flashprotect, echash, sysinfo, reboot_ec, test, resend, pin, power, reset, tick, cut, at, \
-             out, in, i2cw, i2cr, spi and trace")]
+             out, in, i2cw, i2cr, spi, sync and trace")]
     FirstWord,
     /// So many words behind the first one.
     #[error("{count}")]
@@ -59,6 +59,9 @@ pub enum Wanted {
     /// What stands behind `spi`.
     #[error("select, deselect or hexadecimal bytes, from 1 to {most} of them")]
     SpiBytes { most: usize },
+    /// What names a file of the shelf.
+    #[error("a name of at most 255 bytes without a slash")]
+    Name,
     /// Ports from the one that the line names on.
     #[error("within the ports from there to 65535")]
     Ports,
@@ -87,7 +90,7 @@ impl Wanted {
             Wanted::Words { .. } | Wanted::ProtectWords | Wanted::HashWords | Wanted::CutWords =>
                 Why::Count,
             Wanted::Number { .. } | Wanted::Ports => Why::Number,
-            Wanted::Bytes { .. } | Wanted::SpiBytes { .. } => Why::Hex,
+            Wanted::Bytes { .. } | Wanted::SpiBytes { .. } | Wanted::Name => Why::Hex,
         }
     }
 }

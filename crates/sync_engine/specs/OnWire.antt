@@ -1,9 +1,9 @@
 -- A part of a sync on a wire, and a whole one.
-use Rattle.std.specs.Prelude.{ℕ, Bool, List, Result}
+use Rattle.std.specs.Prelude.{ℕ, ◌≤◌, Bool, List, Result}
 use Rattle.ec_model.specs.declared.event.Entry.{Entry}
 use Rattle.ec_model.specs.Asks.{Setting}
 use Rattle.ec_model.specs.HostCalls.{HostView}
-use Rattle.ec_wire.specs.Calls.{WireView, Grows}
+use Rattle.ec_wire.specs.Calls.{WireView, Grows, with_spare}
 use Rattle.host_transport.specs.Asking.{OnWire, host_view}
 use Rattle.sync_rules.specs.declared.ending.Stop.{Stop}
 use Rattle.sync_rules.specs.declared.ending.SyncEnd.{SyncEnd}
@@ -22,3 +22,10 @@ pub record SyncsOn (image : List ℕ) (end : SyncEnd) (old new : WireView) : Typ
   pub added : List Entry
   pub grows : Grows added old new
   pub syncs : Syncs old.bus image (host_view old) added end
+
+-- room was made, for three rounds at least, and the entries that were added are a sync
+pub record SyncsInRoom (image : List ℕ) (end : SyncEnd) (old new : WireView) : Type 0 where
+  pub spare : ℕ
+  pub more : old.spare ≤ spare
+  pub enough : 12000000 ≤ spare
+  pub synced : SyncsOn image end (with_spare spare old) new

@@ -1,10 +1,9 @@
 // The rounds of a sync.
 ghost use Rattle.std.specs.Prelude.{◌≡◌, ◌≤◌, ◌+◌, ℕ, length};
 ghost use Rattle.ec_model.specs.Ranges.{rw_range};
-ghost use Rattle.ec_wire.specs.Calls.{with_spare};
 ghost use Rattle.sync_rules.specs.Steps.{Seals, Rewrites, Prepares, CarriesOut};
 ghost use Rattle.sync_rules.specs.Syncing.{end_told};
-ghost use Rattle.sync_engine.specs.OnWire.{Does, RoundsOn, SyncsOn};
+ghost use Rattle.sync_engine.specs.OnWire.{Does, RoundsOn, SyncsOn, SyncsInRoom};
 
 use crate::asking::{ask_copy, disable_jump, protect};
 use crate::buffers::Buffers;
@@ -147,8 +146,7 @@ pub fn sync_in<W: Wire>(w: &mut W, image: &[u8]) -> SyncEnd
 /// Makes room for the entries of three rounds, and syncs. `NoMemory` where the room is refused; then nothing was sent.
 pub fn sync<W: Wire>(w: &mut W, image: &[u8]) -> SyncEnd
     ensures no_memory { result ≡ SyncEnd.NoMemory → W.view w.new ≡ W.view w.old }
-    ensures syncs { ¬ (result ≡ SyncEnd.NoMemory) → (spare : ℕ) ×
-        ((W.view w.old).spare ≤ spare) × SyncsOn image.now result (with_spare spare (W.view w.old)) (W.view w.new) }
+    ensures syncs { ¬ (result ≡ SyncEnd.NoMemory) → SyncsInRoom image.now result (W.view w.old) (W.view w.new) }
 {
     match w.reserve(ROUNDS * ROUND) {
         Ok(()) => sync_in(w, image),

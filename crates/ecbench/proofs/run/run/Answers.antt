@@ -33,7 +33,7 @@ pub returns-clause-ends : goal.returns-clause-ends
 returns-clause-ends g c =
     let allowed : is_flash_size (g.F.FlashDev.seen c.args.flash).extent ≡ true = ap is_flash_size (sym c.size.ensures) ∙ c.in-Some.ensures.allowed.0 refl in
     let read = c.in-Ok.read in
-    ends-by c.carry_by.result.exit c.args.words.now (g.F.FlashDev.seen c.args.flash) (g.F.FlashDev.seen c.carry_by.result.flash) read.flash.now read.bus read.pin _ _ _ _ _ c.in-Ok.ensures.ok allowed c.carry_by.ensures.carries.ends
+    ends-by _ c.carry_by.result.exit c.args.words.now (g.F.FlashDev.seen c.args.flash) (g.F.FlashDev.seen c.carry_by.result.flash) read.flash.now read.bus read.pin _ _ _ _ _ c.in-Ok.ensures.ok allowed c.carry_by.ensures.carries.ends
 
 pub returns-clause-run : goal.returns-clause-run
 returns-clause-run g c =
