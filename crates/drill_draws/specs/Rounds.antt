@@ -1,5 +1,6 @@
 -- The rounds of a drill, as they are drawn from a number.
-use Rattle.std.specs.Prelude.{ℕ, ◌+◌, ◌-◌, ◌/◌, ◌%◌, List, ◌++◌, length, replicate, codes, decimal}
+use Rattle.std.specs.Prelude.{ℕ, ◌+◌, ◌-◌, ◌%◌, List, ◌++◌, length, replicate, codes, decimal}
+use Rattle.flash_dev.specs.Ranges.{rw_range}
 use Rattle.byteorder.specs.Endian.{little_bytes}
 use Rattle.drill_draws.specs.Draws.{after, nth_draw, drawn_bytes}
 
@@ -15,9 +16,13 @@ body_length x = image_length x - 40
 abbrev pub version_of : ℕ → List ℕ
 version_of round = let text = codes "drill-" ++ decimal round in text ++ replicate (32 - length text) 0
 
--- an image's head: four zeros, the reset vector, which is byte 256 of RW, and the version
+-- the reset vector: byte 256 of RW
+abbrev pub vector_of : ℕ → ℕ
+vector_of size = (rw_range size).at + 256
+
+-- an image's head: four zeros, the reset vector, and the version
 abbrev pub head_of : (round size : ℕ) → List ℕ
-head_of round size = replicate 4 0 ++ little_bytes 4 (size / 2 + 256) ++ version_of round
+head_of round size = replicate 4 0 ++ little_bytes 4 (vector_of size) ++ version_of round
 
 -- the image of a round, for a flash of this size
 abbrev pub drill_image : (round size x : ℕ) → List ℕ

@@ -7,10 +7,12 @@
 
 mod generator;
 mod image;
+mod laws;
 mod rounds;
 
 pub use generator::Generator;
 pub use image::DrillImage;
+pub use laws::rounds_have_images_of_their_own;
 pub use rounds::DrillCut;
 
 #[cfg(test)]

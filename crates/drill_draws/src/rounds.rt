@@ -1,8 +1,8 @@
 // The rounds of a drill.
-ghost use Rattle.std.specs.Prelude.{◌≡◌, ◌≤◌, ◌+◌, ◌/◌, ◌%◌, ◌++◌, length, drop};
+ghost use Rattle.std.specs.Prelude.{◌≡◌, ◌≤◌, ◌+◌, ◌%◌, ◌++◌, length, drop};
 ghost use Rattle.byteorder.specs.Endian.{little_bytes, little_number};
 ghost use Rattle.drill_draws.specs.Draws.{after, nth_draw, drawn_bytes};
-ghost use Rattle.drill_draws.specs.Rounds.{image_length, body_length, drill_image, drill_operation, drill_torn, behind_round};
+ghost use Rattle.drill_draws.specs.Rounds.{image_length, body_length, vector_of, drill_image, drill_operation, drill_torn, behind_round};
 
 use crate::image::HEAD_LENGTH;
 use crate::{DrillImage, Generator};
@@ -31,7 +31,7 @@ impl Generator {
     pub fn draw_round(&mut self, round: u32, geometry: Geometry, image: &mut DrillImage) -> DrillCut
         ensures image { image.new ≡ drill_image round geometry self.old }
         ensures long { length image.new ≡ image_length self.old }
-        ensures vector { little_number 4 (drop 4 image.new) ≡ geometry / 2 + 256 }
+        ensures vector { little_number 4 (drop 4 image.new) ≡ vector_of geometry }
         ensures operation { result.operation ≡ drill_operation self.old }
         ensures torn { result.torn ≡ drill_torn self.old }
         ensures state { self.new ≡ behind_round self.old }
@@ -44,7 +44,7 @@ impl Generator {
     fn draw_image(&mut self, round: u32, geometry: Geometry, image: &mut DrillImage)
         ensures image { image.new ≡ drill_image round geometry self.old }
         ensures long { length image.new ≡ image_length self.old }
-        ensures vector { little_number 4 (drop 4 image.new) ≡ geometry / 2 + 256 }
+        ensures vector { little_number 4 (drop 4 image.new) ≡ vector_of geometry }
         ensures state { self.new ≡ after (body_length self.old + 1) self.old }
     {
         let length = SHORTEST + self.draw_below(LENGTHS);
