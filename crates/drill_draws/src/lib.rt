@@ -1,6 +1,6 @@
 //! What a drill draws: for each of its rounds an image that is to be synced, and a cut of power.
 //!
-//! Below stands `flash_dev`, for the size of a flash; above is to stand `ecbench`, whose drills sync these images and arm
+//! Below stands `flash_dev`, for the size of a flash; above stands `drill_lines`, whose drills sync these images and arm
 //! these cuts. The contract that matters is that of `Generator::draw_round`: the round's image, its cut and the number
 //! behind it are those of the definitions, so a drill's number determines all of its rounds.
 #![tactic(auto)]

@@ -1,19 +1,17 @@
 -- Entries that a line adds.
-use Rattle.std.proofs.Common.{◌≡◌, refl, sym, ap, ◌∙◌, subst, ℕ, ◌+◌, ◌≤◌, Bool, false, cond, List, [], ◌∷◌, length, append-nil, codes, inl, inr, Option, Some, None, Result, Ok, Err, arith}
-use Rattle.std.specs.Prelude.{IsErr, IsErrAnd, IfSome, count_by}
+use Rattle.std.proofs.Common.{◌≡◌, refl, sym, ap, ◌∙◌, subst, ℕ, ◌+◌, ◌≤◌, List, [], ◌∷◌, length, codes, ◌⊎◌, inl, inr, Option, Some, None, Result, Ok, Err, arith}
+use Rattle.std.specs.Prelude.{IsErr, IsErrAnd, IfSome, count_by, sum_by}
 use Rattle.ec_model.specs.Upset.{is_cut_entry}
 use Rattle.ec_types.specs.Tables.{packet_limit}
 use Rattle.ec_model.specs.declared.event.WorldEvent.{WorldEvent}
 use Rattle.ec_model.specs.declared.event.Entry.{Entry}
 use Rattle.ec_model.specs.declared.event.Entry.TheVariants.{Step, Mark}
 use Rattle.ec_model.specs.Table.{Table}
-use Rattle.ec_model.specs.Bench.{BenchCall, Happens as HappensNow, Marks, Arms as ArmEvent, ArmsCut, has_place, cut_at}
-use Rattle.ec_wire.specs.Calls.{WireView, IsAgreed, RunsAlong, RoseBy, bench_of, with_spare}
-use Rattle.ec_wire.proofs.Appends.{runs-nil}
-use Rattle.bench_wire.specs.Adding.{Extends, PlaysBy, IsMarked}
-use Rattle.bench_wire.specs.Arming.{IsArmed}
+use Rattle.ec_model.specs.Bench.{BenchCall, Happens as HappensNow, Marks, Arms as ArmEvent, ArmsCut, has_place}
+use Rattle.ec_wire.specs.Calls.{WireView, IsAgreed, RunsAlong, with_spare}
+use Rattle.bench_wire.specs.Adding.{Extends}
 use Rattle.bench_wire.specs.declared.arms.ArmsFull.{ArmsFull}
-use Rattle.bench_wire.proofs.Extending.{extends-then, extends-grows, extends-nil}
+use Rattle.bench_wire.proofs.Extending.{extends-then, extends-grows}
 use Rattle.ectool_lines.specs.declared.tool.Tool.{Tool}
 use Rattle.ectool_lines.specs.Tools.{IsInRange}
 use Rattle.ectool_lines.specs.Requests.{commands_of}
@@ -29,114 +27,37 @@ use Rattle.bench_shelf.specs.declared.shelf.Loaded.TheVariants.{Whole, TooLong}
 use Rattle.sync_lines.specs.Syncing.{SyncsLoaded, RunsSync}
 use Rattle.sync_lines.specs.declared.line.SyncLineErr.{SyncLineErr}
 use Rattle.sync_lines.specs.declared.line.SyncLineErr.TheVariants as sync_err
+use Rattle.drill_lines.specs.Drilling.{RunsDrill}
+use Rattle.ecbench.proofs.OneCall.{extends-spare, marks-extends, extends-none, arm-extends, cut-extends}
+use Rattle.ecbench.proofs.DrillRounds.{rounds-add}
 use Rattle.ectool_lines.proofs.AnswerLemmas.{Ready, tool-proper}
 use Rattle.script_lines.specs.declared.line.BusLine.{BusLine}
 use Rattle.ecbench.specs.declared.run.Exit.{Exit}
 use Rattle.ecbench.specs.declared.run.Exit.TheVariants.{Done, BadWords, BadFlash, BadLine, SourceFault, SinkFault, ShelfFault, NoMemory, ScriptTooLong}
-use Rattle.ecbench.specs.Lines.{Deed, Asks, Around, Happens, Makes, Arms, Cuts, Syncs, Traces, deed_of, MarksLine, FollowsEach, CarriesLine, ArmsLine, SyncsLine, DoesLine, Carried, Happened, Made, HasArmed, HasCut, Synced, Traced, armed_text}
+use Rattle.ecbench.specs.Lines.{Deed, Asks, Around, Happens, Makes, Arms, Cuts, Syncs, Drills, Traces, deed_of, MarksLine, FollowsEach, CarriesLine, ArmsLine, IsLeft, Unmarked, JustMarked, DrilledInPart, DoesLine, Carried, Happened, Made, HasArmed, HasCut, Synced, Drilled, Traced, armed_text}
 use Rattle.ecbench.specs.Tracing.{trace_text}
-use Rattle.ecbench.specs.Cutting.{CutsBy, arms_cut, is_cut_deed}
+use Rattle.ecbench.specs.Cutting.{CutsBy, cuts_in, cuts_of}
 use Rattle.ecbench.specs.Playing.{AreOwn, IsCalled, PlaysOn}
 use Rattle.ecbench.proofs.PlayLines.{on-then, on-none, on-mark, on-arm, on-cut, on-event, on-host}
 use Rattle.ecbench.proofs.CutCounts.{told-then, told-as, host-told, happens-told, still-told, armed-told}
-use Rattle.ecbench.specs.Serving.{exit_of, ServesLine, ServesEvent, ServesCalls, ServesArm, ServesCut, ServesSync, ServesTrace, exit_of_sync}
+use Rattle.ecbench.specs.Serving.{exit_of, ServesLine, ServesEvent, ServesCalls, ServesArm, ServesCut, ServesSync, ServesDrill, ServesTrace, exit_of_sync}
 use Rattle.ecbench.proofs.FollowLemmas.{each-followed, run-ready}
 
--- the same from another room
-pub extends-spare : (spare : ℕ) (added : List Entry) (old new : WireView) → Extends added (with_spare spare old) new → Extends added old new
-extends-spare spare added old new e =
-    record { entries = e.entries; on = e.on; bus = e.bus; powerless = e.powerless; faults = e.faults; cuts = e.cuts; run = e.run; played = e.played }
-
--- a mark
-mark-played : (number : ℕ) (old new : WireView) (o : Option Table) → IsMarked number old new → PlaysBy (Mark number ∷ []) old new o o
-mark-played number old new None marked = tt
-mark-played number old new (Some table) marked =
-    record { calls = Marks number ∷ []; played = (Mark number ∷ [], [], bench_of new table, refl, (refl, ap (λ (view : WireView). bench_of view table) marked), (refl, refl)) }
-
-runs-mark : (number : ℕ) (o : Option Table) → RunsAlong (Mark number ∷ []) o o
-runs-mark number None = tt
-runs-mark number (Some table) = (table, refl, refl)
-
-marked-extends : (number : ℕ) (old new : WireView) → IsMarked number old new → Extends (Mark number ∷ []) old new
-marked-extends number old new marked =
-    let table_is : new.table ≡ old.table = ap (λ (view : WireView). view.table) marked in
-    record {
-      entries = ap (λ (view : WireView). view.entries) marked;
-      on = ap (λ (view : WireView). view.on) marked;
-      bus = ap (λ (view : WireView). view.bus) marked;
-      powerless = (tt, tt);
-      faults = subst (λ (now : ℕ). RoseBy 0 old.faults now) (sym (ap (λ (view : WireView). view.faults) marked)) (record { later = omega arith; risen = omega arith });
-      cuts = subst (λ (now : ℕ). RoseBy 0 old.cuts now) (sym (ap (λ (view : WireView). view.cuts) marked)) (record { later = omega arith; risen = omega arith });
-      run = subst (λ (table : Option Table). RunsAlong (Mark number ∷ []) old.table table) (sym table_is) (runs-mark number old.table);
-      played = subst (λ (table : Option Table). PlaysBy (Mark number ∷ []) old new old.table table) (sym table_is) (mark-played number old new old.table marked);
-    }
-
-pub marks-extends : (number : ℕ) (old new : WireView) → MarksLine number old new → Extends (Mark number ∷ []) old new
-marks-extends number old new marks = extends-spare marks.spare (Mark number ∷ []) old new (marked-extends number (with_spare marks.spare old) new marks.marked)
-
--- nothing
-pub extends-none : (view : WireView) → Extends [] view view
-extends-none view = extends-nil view.spare view
-
--- an event that was armed, or refused
-arm-played : (call : ℕ) (event : WorldEvent) (result : Result (Unit {0}) ArmsFull) (old new : WireView) (o : Option Table) → IsArmed call event result old new → PlaysBy [] old new o o
-arm-played call event result old new None arms = tt
-arm-played call event result old new (Some table) arms =
-    record {
-      calls = ArmEvent call event (has_place old.armed) ∷ [];
-      played = ([], [], bench_of new table, refl, (refl, refl, ap (λ (view : WireView). bench_of view table) arms.armed), (refl, refl));
-    }
-
-arm-extends : (call : ℕ) (event : WorldEvent) (result : Result (Unit {0}) ArmsFull) (old new : WireView) → IsArmed call event result old new → Extends [] old new
-arm-extends call event result old new arms =
-    let table_is : new.table ≡ old.table = ap (λ (view : WireView). view.table) arms.armed in
-    record {
-      entries = ap (λ (view : WireView). view.entries) arms.armed ∙ sym (append-nil old.entries);
-      on = ap (λ (view : WireView). view.on) arms.armed;
-      bus = ap (λ (view : WireView). view.bus) arms.armed;
-      powerless = tt;
-      faults = subst (λ (now : ℕ). RoseBy 0 old.faults now) (sym (ap (λ (view : WireView). view.faults) arms.armed)) (record { later = omega arith; risen = omega arith });
-      cuts = subst (λ (now : ℕ). RoseBy 0 old.cuts now) (sym (ap (λ (view : WireView). view.cuts) arms.armed)) (record { later = omega arith; risen = omega arith });
-      run = subst (λ (table : Option Table). RunsAlong [] old.table table) (sym table_is) (runs-nil old.table);
-      played = subst (λ (table : Option Table). PlaysBy [] old new old.table table) (sym table_is) (arm-played call event result old new old.table arms);
-    }
-
--- a cut that was armed
-cut-played : (operation : ℕ) (torn : List ℕ) (old new : WireView) (o : Option Table) → new ≡ record old { cut = cut_at operation torn } → PlaysBy [] old new o o
-cut-played operation torn old new None armed = tt
-cut-played operation torn old new (Some table) armed =
-    record {
-      calls = ArmsCut operation torn ∷ [];
-      played = ([], [], bench_of new table, refl, (refl, ap (λ (view : WireView). bench_of view table) armed), (refl, refl));
-    }
-
-cut-extends : (operation : ℕ) (torn : List ℕ) (old new : WireView) → new ≡ record old { cut = cut_at operation torn } → Extends [] old new
-cut-extends operation torn old new armed =
-    let table_is : new.table ≡ old.table = ap (λ (view : WireView). view.table) armed in
-    record {
-      entries = ap (λ (view : WireView). view.entries) armed ∙ sym (append-nil old.entries);
-      on = ap (λ (view : WireView). view.on) armed;
-      bus = ap (λ (view : WireView). view.bus) armed;
-      powerless = tt;
-      faults = subst (λ (now : ℕ). RoseBy 0 old.faults now) (sym (ap (λ (view : WireView). view.faults) armed)) (record { later = omega arith; risen = omega arith });
-      cuts = subst (λ (now : ℕ). RoseBy 0 old.cuts now) (sym (ap (λ (view : WireView). view.cuts) armed)) (record { later = omega arith; risen = omega arith });
-      run = subst (λ (table : Option Table). RunsAlong [] old.table table) (sym table_is) (runs-nil old.table);
-      played = subst (λ (table : Option Table). PlaysBy [] old new old.table table) (sym table_is) (cut-played operation torn old new old.table armed);
-    }
-
 -- how many cuts a line arms
-pub arms-none : (line : List ℕ) (deed : Deed) → deed_of line ≡ Ok deed → is_cut_deed (Ok deed) ≡ false → count_by arms_cut (line ∷ []) ≡ 0
-arms-none line deed wants none = ap (λ (b : Bool). 0 + cond b 1 0) (ap is_cut_deed wants ∙ none)
+pub arms-as : (line : List ℕ) (deed : Deed) (count : ℕ) → deed_of line ≡ Ok deed → cuts_of (Ok deed) ≡ count → sum_by cuts_in (line ∷ []) ≡ count
+arms-as line deed count wants is =
+    let here : cuts_in line ≡ count = ap cuts_of wants ∙ is in
+    omega (arith, here)
 
-arms-one : (line : List ℕ) (operation : ℕ) (torn : List ℕ) → deed_of line ≡ Ok (Cuts operation torn) → count_by arms_cut (line ∷ []) ≡ 1
-arms-one line operation torn wants = ap (λ (b : Bool). 0 + cond b 1 0) (ap is_cut_deed wants)
+pub arms-none : (line : List ℕ) (deed : Deed) → deed_of line ≡ Ok deed → cuts_of (Ok deed) ≡ 0 → sum_by cuts_in (line ∷ []) ≡ 0
+arms-none line deed wants none = arms-as line deed 0 wants none
 
 -- what a line that was done added, how often power was lost in it, and its calls
 pub record LineAdds (number : ℕ) (line : List ℕ) (old new : WireView) : Type 0 where
   pub added : List Entry
   pub some : 1 ≤ length added
   pub extends : Extends added old new
-  pub cuts : IfSome old.table (λ table. CutsBy (count_by arms_cut (line ∷ [])) (count_by is_cut_entry added) old.cut old.own_cuts new.cut new.own_cuts)
+  pub cuts : IfSome old.table (λ table. CutsBy (sum_by cuts_in (line ∷ [])) (count_by is_cut_entry added) old.cut old.own_cuts new.cut new.own_cuts)
   pub calls : List BenchCall
   pub called : IsCalled number line calls
   pub played : PlaysOn calls added old new
@@ -146,7 +67,7 @@ mark-told : (number : ℕ) (old new : WireView) (o : Option Table) → MarksLine
 mark-told number old new o marks = still-told old new o (ap (λ (view : WireView). view.cut) marks.marked) (ap (λ (view : WireView). view.own_cuts) marks.marked)
 
 -- what a line added behind its mark
-behind-mark : (number : ℕ) (line : List ℕ) (deed : Deed) (calls : List BenchCall) (own : List Entry) (armings : ℕ) (old marked new : WireView) → deed_of line ≡ Ok deed → AreOwn deed calls → PlaysOn calls own marked new → MarksLine number old marked → count_by arms_cut (line ∷ []) ≡ armings → Extends own marked new →
+behind-mark : (number : ℕ) (line : List ℕ) (deed : Deed) (calls : List BenchCall) (own : List Entry) (armings : ℕ) (old marked new : WireView) → deed_of line ≡ Ok deed → AreOwn deed calls → PlaysOn calls own marked new → MarksLine number old marked → sum_by cuts_in (line ∷ []) ≡ armings → Extends own marked new →
     IfSome marked.table (λ table. CutsBy armings (count_by is_cut_entry own) marked.cut marked.own_cuts new.cut new.own_cuts) → LineAdds number line old new
 behind-mark number line deed calls own armings old marked new wants own_are played marks arms extends cuts =
     let mark = marks-extends number old marked marks in
@@ -154,7 +75,7 @@ behind-mark number line deed calls own armings old marked new wants own_are play
       added = Mark number ∷ own;
       some = omega arith;
       extends = extends-then (Mark number ∷ []) own old marked new mark extends;
-      cuts = told-as (0 + armings) (count_by arms_cut (line ∷ [])) (0 + count_by is_cut_entry own) (count_by is_cut_entry (Mark number ∷ own)) old new old.table (omega (arith, arms)) (omega arith)
+      cuts = told-as (0 + armings) (sum_by cuts_in (line ∷ [])) (0 + count_by is_cut_entry own) (count_by is_cut_entry (Mark number ∷ own)) old new old.table (omega (arith, arms)) (omega arith)
           (told-then 0 armings 0 (count_by is_cut_entry own) old.cut marked.cut new.cut old.own_cuts marked.own_cuts new.own_cuts (Mark number ∷ []) old.table marked.table mark.run (mark-told number old marked old.table marks) cuts);
       calls = Marks number ∷ calls;
       called = inr (record { deed = deed; own = calls; wants = wants; calls_are = refl; own_are = own_are });
@@ -200,9 +121,12 @@ line-adds number last line text old new (HasArmed call event result wants arms s
     (still-told marked new marked.table (ap (λ (view : WireView). view.cut) same) (ap (λ (view : WireView). view.own_cuts) same))
 line-adds number last line text old new (HasCut operation torn wants cuts said) =
     let marked = cuts.marked in
-    behind-mark number line (Cuts operation torn) (ArmsCut operation torn ∷ []) [] 1 old marked new wants refl (on-cut operation torn marked new cuts.armed) cuts.marks (arms-one line operation torn wants) (cut-extends operation torn marked new cuts.armed)
+    behind-mark number line (Cuts operation torn) (ArmsCut operation torn ∷ []) [] 1 old marked new wants refl (on-cut operation torn marked new cuts.armed) cuts.marks (arms-as line (Cuts operation torn) 1 wants refl) (cut-extends operation torn marked new cuts.armed)
     (armed-told operation torn marked new marked.table (ap (λ (view : WireView). view.cut) cuts.armed) (ap (λ (view : WireView). view.own_cuts) cuts.armed))
 line-adds number last line text old new (Synced name words wants syncs said) = sync-adds _ words number line name old (syncs.marked) new wants syncs.marks (syncs.synced).loaded (syncs.synced).synced
+line-adds number last line text old new (Drilled x rounds words wants drills said) =
+    let part = rounds-add _ x rounds drills.marked new (drills.drill).cuts (drills.drill).done (drills.drill).drilled in
+    behind-mark number line (Drills x rounds) part.calls part.added rounds old drills.marked new wants part.called part.played drills.marks (arms-as line (Drills x rounds) rounds wants refl) part.extends part.cuts
 line-adds number last line text old new (Traced wants marks said) =
     behind-mark number line Traces [] [] 0 old new new wants refl (on-none new) marks (arms-none line Traces wants refl) (extends-none new) (still-told new new new.table refl refl)
 
@@ -230,6 +154,11 @@ line-carried number line text tool old marked new wants within agreed marks carr
       follows = follows-told (with_spare carries.spare marked) new tool carried.added carried.end marked.table new.table agreed within carried.asks carried.grows.run;
     }
 
+-- of a line there is at most its mark
+left-of : (around : Around) (number : ℕ) (line : List ℕ) (old new : WireView) → (new ≡ old) ⊎ MarksLine number old new → IsLeft around number line old new
+left-of around number line old new (inl still) = Unmarked still
+left-of around number line old new (inr marks) = JustMarked marks
+
 -- what was done with a line that sends commands
 pub tool-done : (around : Around) (number : ℕ) (last : List Entry) (line text : List ℕ) (tool : Tool) (old marked new : WireView) (before after : Option (List ℕ)) → deed_of line ≡ Ok (Asks tool) → IsInRange tool → IsAgreed marked → MarksLine number old marked →
     Carries tool text marked new → Appends text before after → ServesLine around (Ok tt) number last line old new before after
@@ -241,7 +170,7 @@ pub tool-stopped : (around : Around) (error : PrintErr) (number : ℕ) (last : L
 tool-stopped around Sink number last line tool old marked new before after wants within agreed marks (text, carries, front) =
     (text, Carried (line-carried number line text tool old marked new wants within agreed marks carries), front)
 tool-stopped around NoMemoryLeft number last line tool old marked new before after wants within agreed marks (still, unsaid) =
-    (inr (subst (λ (view : WireView). MarksLine number old view) (sym still) marks), unsaid)
+    (JustMarked (subst (λ (view : WireView). MarksLine number old view) (sym still) marks), unsaid)
 
 -- an error of printing as an exit
 pub as-exit : (around : Around) (result : Result (Unit {0}) Exit) (error : PrintErr) (number : ℕ) (last : List Entry) (line : List ℕ) (old new : WireView) (before after : Option (List ℕ)) → IsErr result × IsErrAnd result (λ exit. exit ≡ exit_of error) → ServesLine around (Err (exit_of error)) number last line old new before after →
@@ -266,7 +195,7 @@ agreed-behind old new added agreed extends = agreed-told old new added old.table
 pub event-serves : (around : Around) (result : Result (Unit {0}) Exit) (number : ℕ) (last : List Entry) (line : List ℕ) (happened : WorldEvent) (old new : WireView) (before after : Option (List ℕ)) → deed_of line ≡ Ok (Happens happened) → ServesEvent result number happened old new before after → ServesLine around result number last line old new before after
 event-serves around (Ok done) number last line happened old new before after wants (happens, said) = inr (record { text = printed (codes "ok"); does = Happened happened wants happens refl; printed = said })
 event-serves around (Err SinkFault) number last line happened old new before after wants (happens, said) = (printed (codes "ok"), Happened happened wants happens refl, said)
-event-serves around (Err NoMemory) number last line happened old new before after wants (still, unsaid) = (inl still, unsaid)
+event-serves around (Err NoMemory) number last line happened old new before after wants (still, unsaid) = (Unmarked still, unsaid)
 event-serves around (Err Done) number last line happened old new before after wants never = absurd never
 event-serves around (Err BadWords) number last line happened old new before after wants never = absurd never
 event-serves around (Err BadFlash) number last line happened old new before after wants never = absurd never
@@ -279,7 +208,7 @@ event-serves around (Err ScriptTooLong) number last line happened old new before
 pub calls-serves : (around : Around) (result : Result (Unit {0}) Exit) (number : ℕ) (last : List Entry) (line : List ℕ) (calls : BusLine) (old new : WireView) (before after : Option (List ℕ)) → deed_of line ≡ Ok (Makes calls) → ServesCalls result number calls old new before after → ServesLine around result number last line old new before after
 calls-serves around (Ok done) number last line calls old new before after wants (words, makes, said) = inr (record { text = printed words; does = Made calls words wants makes refl; printed = said })
 calls-serves around (Err SinkFault) number last line calls old new before after wants (words, makes, said) = (printed words, Made calls words wants makes refl, said)
-calls-serves around (Err NoMemory) number last line calls old new before after wants (marked, unsaid) = (marked, unsaid)
+calls-serves around (Err NoMemory) number last line calls old new before after wants (marked, unsaid) = (left-of around number line old new marked, unsaid)
 calls-serves around (Err Done) number last line calls old new before after wants never = absurd never
 calls-serves around (Err BadWords) number last line calls old new before after wants never = absurd never
 calls-serves around (Err BadFlash) number last line calls old new before after wants never = absurd never
@@ -292,7 +221,7 @@ calls-serves around (Err ScriptTooLong) number last line calls old new before af
 pub arm-serves : (around : Around) (result : Result (Unit {0}) Exit) (number : ℕ) (last : List Entry) (line : List ℕ) (call : ℕ) (event : WorldEvent) (old new : WireView) (before after : Option (List ℕ)) → deed_of line ≡ Ok (Arms call event) → ServesArm result number call event old new before after → ServesLine around result number last line old new before after
 arm-serves around (Ok done) number last line call event old new before after wants (armed, arms, said) = inr (record { text = printed (armed_text armed); does = HasArmed call event armed wants arms refl; printed = said })
 arm-serves around (Err SinkFault) number last line call event old new before after wants (armed, arms, said) = (printed (armed_text armed), HasArmed call event armed wants arms refl, said)
-arm-serves around (Err NoMemory) number last line call event old new before after wants (still, unsaid) = (inl still, unsaid)
+arm-serves around (Err NoMemory) number last line call event old new before after wants (still, unsaid) = (Unmarked still, unsaid)
 arm-serves around (Err Done) number last line call event old new before after wants never = absurd never
 arm-serves around (Err BadWords) number last line call event old new before after wants never = absurd never
 arm-serves around (Err BadFlash) number last line call event old new before after wants never = absurd never
@@ -312,7 +241,7 @@ arm-stopped (Err exit) NoMemoryLeft number call event armed old new before after
 pub cut-serves : (around : Around) (result : Result (Unit {0}) Exit) (number : ℕ) (last : List Entry) (line : List ℕ) (operation : ℕ) (torn : List ℕ) (old new : WireView) (before after : Option (List ℕ)) → deed_of line ≡ Ok (Cuts operation torn) → ServesCut result number operation torn old new before after → ServesLine around result number last line old new before after
 cut-serves around (Ok done) number last line operation torn old new before after wants (cuts, said) = inr (record { text = printed (codes "ok"); does = HasCut operation torn wants cuts refl; printed = said })
 cut-serves around (Err SinkFault) number last line operation torn old new before after wants (cuts, said) = (printed (codes "ok"), HasCut operation torn wants cuts refl, said)
-cut-serves around (Err NoMemory) number last line operation torn old new before after wants (still, unsaid) = (inl still, unsaid)
+cut-serves around (Err NoMemory) number last line operation torn old new before after wants (still, unsaid) = (Unmarked still, unsaid)
 cut-serves around (Err Done) number last line operation torn old new before after wants never = absurd never
 cut-serves around (Err BadWords) number last line operation torn old new before after wants never = absurd never
 cut-serves around (Err BadFlash) number last line operation torn old new before after wants never = absurd never
@@ -325,7 +254,7 @@ cut-serves around (Err ScriptTooLong) number last line operation torn old new be
 pub trace-serves : (around : Around) (result : Result (Unit {0}) Exit) (number : ℕ) (last : List Entry) (line : List ℕ) (old new : WireView) (before after : Option (List ℕ)) → deed_of line ≡ Ok Traces → ServesTrace result number last old new before after → ServesLine around result number last line old new before after
 trace-serves around (Ok done) number last line old new before after wants (marks, said) = inr (record { text = printed (trace_text last); does = Traced wants marks refl; printed = said })
 trace-serves around (Err SinkFault) number last line old new before after wants (marks, said) = (printed (trace_text last), Traced wants marks refl, said)
-trace-serves around (Err NoMemory) number last line old new before after wants (still, unsaid) = (inl still, unsaid)
+trace-serves around (Err NoMemory) number last line old new before after wants (still, unsaid) = (Unmarked still, unsaid)
 trace-serves around (Err Done) number last line old new before after wants never = absurd never
 trace-serves around (Err BadWords) number last line old new before after wants never = absurd never
 trace-serves around (Err BadFlash) number last line old new before after wants never = absurd never
@@ -339,7 +268,7 @@ pub sync-serves : (result : Result (Unit {0}) Exit) (around : Around) (number : 
 sync-serves (Ok done) around number last line name old new before after wants (words, syncs, said) = inr (record { text = printed words; does = Synced name words wants syncs refl; printed = said })
 sync-serves (Err SinkFault) around number last line name old new before after wants (words, syncs, said) = (printed words, Synced name words wants syncs refl, said)
 sync-serves (Err ShelfFault) around number last line name old new before after wants (marks, unsaid) = (name, wants, marks, unsaid)
-sync-serves (Err NoMemory) around number last line name old new before after wants (marked, unsaid) = (marked, unsaid)
+sync-serves (Err NoMemory) around number last line name old new before after wants (marked, unsaid) = (left-of around number line old new marked, unsaid)
 sync-serves (Err Done) around number last line name old new before after wants never = absurd never
 sync-serves (Err BadWords) around number last line name old new before after wants never = absurd never
 sync-serves (Err BadFlash) around number last line name old new before after wants never = absurd never
@@ -362,3 +291,26 @@ sync-stopped (Err exit) sync_err.NoMemory around number name old marked new befo
 pub sync-named : (result : Result (Unit {0}) Exit) (around : Around) (number : ℕ) (last : List Entry) (line bytes name : List ℕ) (old new : WireView) (before after : Option (List ℕ)) → bytes ≡ name → deed_of line ≡ Ok (Syncs name) → ServesSync result around number bytes old new before after → ServesLine around result number last line old new before after
 sync-named result around number last line bytes name old new before after same wants serves =
     sync-serves result around number last line name old new before after wants (subst (λ (n : List ℕ). ServesSync result around number n old new before after) same serves)
+
+-- what was done with a drill, for a line that wants it
+pub drill-serves : (result : Result (Unit {0}) Exit) (around : Around) (number : ℕ) (last : List Entry) (line : List ℕ) (x rounds : ℕ) (old new : WireView) (before after : Option (List ℕ)) → deed_of line ≡ Ok (Drills x rounds) → ServesDrill result around.size number x rounds old new before after → ServesLine around result number last line old new before after
+drill-serves (Ok done) around number last line x rounds old new before after wants (words, drills, said) = inr (record { text = printed words; does = Drilled x rounds words wants drills refl; printed = said })
+drill-serves (Err SinkFault) around number last line x rounds old new before after wants (words, drills, said) = (printed words, Drilled x rounds words wants drills refl, said)
+drill-serves (Err NoMemory) around number last line x rounds old new before after wants (inl still, unsaid) = (Unmarked still, unsaid)
+drill-serves (Err NoMemory) around number last line x rounds old new before after wants (inr part, unsaid) = (DrilledInPart x rounds wants part, unsaid)
+drill-serves (Err Done) around number last line x rounds old new before after wants never = absurd never
+drill-serves (Err BadWords) around number last line x rounds old new before after wants never = absurd never
+drill-serves (Err BadFlash) around number last line x rounds old new before after wants never = absurd never
+drill-serves (Err (BadLine at reason)) around number last line x rounds old new before after wants never = absurd never
+drill-serves (Err SourceFault) around number last line x rounds old new before after wants never = absurd never
+drill-serves (Err ShelfFault) around number last line x rounds old new before after wants never = absurd never
+drill-serves (Err ScriptTooLong) around number last line x rounds old new before after wants never = absurd never
+
+-- a drill, behind its line's mark, was not printed whole, or not carried out whole
+pub drill-stopped : (result : Result (Unit {0}) Exit) (error : PrintErr) (size number x rounds : ℕ) (old marked new : WireView) (before after : Option (List ℕ)) → IsErr result × IsErrAnd result (λ exit. exit ≡ exit_of error) → MarksLine number old marked →
+    RunsDrill (Err error) size x rounds marked new before after → ServesDrill result size number x rounds old new before after
+drill-stopped (Ok done) error size number x rounds old marked new before after (never, same) marks runs = cc
+drill-stopped (Err exit) Sink size number x rounds old marked new before after (is, same) marks (words, drill, front) =
+    subst (λ (e : Exit). ServesDrill (Err e) size number x rounds old new before after) (sym same) (words, record { marked = marked; marks = marks; drill = drill }, front)
+drill-stopped (Err exit) NoMemoryLeft size number x rounds old marked new before after (is, same) marks (part, unsaid) =
+    subst (λ (e : Exit). ServesDrill (Err e) size number x rounds old new before after) (sym same) (inr (record { marked = marked; marks = marks; part = part }), unsaid)

@@ -1,6 +1,8 @@
 pub mod Doing
 pub mod CutCounts
 pub mod PlayLines
+pub mod OneCall
+pub mod DrillRounds
 pub mod Adding
 pub mod ReadLemmas
 mod FollowLemmas

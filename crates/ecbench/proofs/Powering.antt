@@ -18,7 +18,7 @@ use Rattle.bench_shelf.specs.Shelves.{File}
 use Rattle.ecbench.specs.Lines.{Around}
 use Rattle.ecbench.specs.Endings.{opened, around_of, EndsOn, Begins, HandsBack, NothingHappened}
 use Rattle.ecbench.specs.Serving.{DoesNothing, PowersAndServes, Drives}
-use Rattle.ecbench.proofs.Adding.{extends-none, extends-spare}
+use Rattle.ecbench.proofs.OneCall.{extends-none, extends-spare}
 
 -- nothing was done, or power came and a script was served
 drives-either : (around : Around) (exit : Exit) (old new : WireView) (left rest before after : Option (List ℕ)) → Drives around exit old new left rest before after → DoesNothing old new left rest before after ⊎ PowersAndServes around exit old new left rest before after

@@ -1,6 +1,6 @@
 -- A script, line by line: what was done so far, and what each exit says.
 use Rattle.std.proofs.Common.{◌≡◌, refl, sym, ap, ◌∙◌, subst, ℕ, ◌+◌, ◌≤◌, ◌<◌, Bool, true, false, nat_lt, if◌then◌else◌, List, [], ◌++◌, length, length-append, map, take, drop, ◌-◌, append_assoc, length-drop, append-nil, inl, inr, Option, Some, None, Result, Ok, Err, arith}
-use Rattle.std.specs.Prelude.{IfSome, count_by}
+use Rattle.std.specs.Prelude.{IfSome, count_by, sum_by}
 use Rattle.ec_model.specs.Upset.{is_cut_entry}
 use Rattle.std.proofs.lemmas.Bool.{le-leb, lt-ltb}
 use Rattle.std.proofs.lemmas.List.{length-map, take-append-drop}
@@ -33,11 +33,11 @@ use Rattle.script_lines.specs.Lines.{line_of, line_by}
 use Rattle.ecbench.specs.Scripts.{IsScript, ReadsNoFurther, Plays, IsLine}
 use Rattle.ecbench.specs.Serving.{Serves, exit_at}
 use Rattle.ec_model.specs.Bench.{BenchCall}
-use Rattle.ecbench.specs.Cutting.{CutsBy, CutsAlong, arms_cut}
+use Rattle.ecbench.specs.Cutting.{CutsBy, CutsAlong, cuts_in}
 use Rattle.ecbench.specs.Playing.{AreCalled, PlaysOn, PlaysLines}
 use Rattle.ecbench.proofs.PlayLines.{on-none}
 use Rattle.ecbench.proofs.CutCounts.{still-told}
-use Rattle.ecbench.proofs.Adding.{extends-none}
+use Rattle.ecbench.proofs.OneCall.{extends-none}
 
 -- what is left of a source; nothing where that is not told
 abbrev rest_of : Option (List ℕ) → List ℕ
@@ -87,7 +87,7 @@ pub record Served (around : Around) (number since : ℕ) (opened now : WireView)
   pub last : List Entry
   pub since_is : drop since now.entries ≡ last
   pub within : since ≤ length now.entries
-  pub cuts : IfSome opened.table (λ table. CutsBy (count_by arms_cut (map without_return raws)) (count_by is_cut_entry own) opened.cut opened.own_cuts now.cut now.own_cuts)
+  pub cuts : IfSome opened.table (λ table. CutsBy (sum_by cuts_in (map without_return raws)) (count_by is_cut_entry own) opened.cut opened.own_cuts now.cut now.own_cuts)
   pub calls : List BenchCall
   pub called : AreCalled 1 (map without_return raws) calls
   pub played : PlaysOn calls own opened now
@@ -120,7 +120,7 @@ served-nothing opened left before reader fresh none =
     }
 
 -- how often power was lost in them
-pub along : {around : Around} → {number since : ℕ} {opened now : WireView} {reader : ReaderView} {left rest before after : Option (List ℕ)} → (served : Served around number since opened now reader left rest before after) → CutsAlong (count_by arms_cut (map without_return served.raws)) opened now
+pub along : {around : Around} → {number since : ℕ} {opened now : WireView} {reader : ReaderView} {left rest before after : Option (List ℕ)} → (served : Served around number since opened now reader left rest before after) → CutsAlong (sum_by cuts_in (map without_return served.raws)) opened now
 along served = record { added = served.own; entries = served.extends.entries; counted = served.cuts }
 
 -- the calls that they are
@@ -155,7 +155,7 @@ serves-failed {around = around} number opened now reader after_reader left rest 
           own = served.last;
           done = subst (λ (ls : List (List ℕ)). AreDone around 1 opened.entries ls served.text opened now served.last) (sym lines) served.done;
           printed = served.printed;
-          cuts = subst (λ (ls : List (List ℕ)). CutsAlong (count_by arms_cut ls) opened now) (sym lines) (along served);
+          cuts = subst (λ (ls : List (List ℕ)). CutsAlong (sum_by cuts_in ls) opened now) (sym lines) (along served);
           played = subst (λ (ls : List (List ℕ)). PlaysLines ls opened now) (sym lines) (plays-lines served);
         },
       );
@@ -189,7 +189,7 @@ serves-end {around = around} number opened now reader after_reader left rest mor
           own = served.last;
           done = subst (λ (ls : List (List ℕ)). AreDone around 1 opened.entries ls served.text opened now served.last) (sym lines_are) served.done;
           printed = served.printed;
-          cuts = subst (λ (ls : List (List ℕ)). CutsAlong (count_by arms_cut ls) opened now) (sym lines_are) (along served);
+          cuts = subst (λ (ls : List (List ℕ)). CutsAlong (sum_by cuts_in ls) opened now) (sym lines_are) (along served);
           played = subst (λ (ls : List (List ℕ)). PlaysLines ls opened now) (sym lines_are) (plays-lines served);
         },
       );
@@ -240,7 +240,7 @@ serves-full {around = around} number opened now reader after_reader left rest mo
           own = served.last;
           done = subst (λ (ls : List (List ℕ)). AreDone around 1 opened.entries ls served.text opened now served.last) (sym lines_are) served.done;
           printed = served.printed;
-          cuts = subst (λ (ls : List (List ℕ)). CutsAlong (count_by arms_cut ls) opened now) (sym lines_are) (along served);
+          cuts = subst (λ (ls : List (List ℕ)). CutsAlong (sum_by cuts_in ls) opened now) (sym lines_are) (along served);
           played = subst (λ (ls : List (List ℕ)). PlaysLines ls opened now) (sym lines_are) (plays-lines served);
         },
       );

@@ -1,5 +1,5 @@
 -- A script, line by line: what a line that was read leaves, done or not.
-use Rattle.std.proofs.Common.{◌≡◌, refl, sym, ap, ◌∙◌, subst, ℕ, ◌+◌, ◌≤◌, cond, Bool, true, false, nat_lt, if◌then◌else◌, List, [], ◌∷◌, ◌++◌, drop, length, length-append, map, append_assoc, append-nil, ◌⊎◌, inl, inr, Option, Some, Result, Ok, Err, arith}
+use Rattle.std.proofs.Common.{◌≡◌, refl, sym, ap, ◌∙◌, subst, ℕ, ◌+◌, ◌≤◌, Bool, true, false, nat_lt, if◌then◌else◌, List, [], ◌∷◌, ◌++◌, drop, length, length-append, map, append_assoc, append-nil, ◌⊎◌, inl, inr, Option, Some, Result, Ok, Err, arith}
 use Rattle.std.proofs.lemmas.Bool.{lt-ltb, le-ltb}
 use Rattle.std.proofs.Math.Seq.{drop-append_seam}
 use Rattle.ec_model.specs.declared.event.Entry.{Entry}
@@ -14,23 +14,25 @@ use Rattle.ectool_lines.specs.Running.{Appends}
 use Rattle.ecbench.specs.declared.run.Exit.{Exit}
 use Rattle.ecbench.specs.declared.run.Exit.TheVariants.{Done, BadWords, BadFlash, BadLine, SourceFault, SinkFault, ShelfFault, NoMemory, ScriptTooLong}
 use Rattle.bench_shelf.specs.Shelves.{File}
-use Rattle.ecbench.specs.Lines.{Around, Nothing, MarksLine, DoesLine, PassesOver, IsDone, WasPassed, WasDone, AreDone}
+use Rattle.ecbench.specs.Lines.{Around, IsLeft, Unmarked, JustMarked, DrilledInPart, Nothing, MarksLine, DoesLine, PassesOver, IsDone, WasPassed, WasDone, AreDone}
 use Rattle.ecbench.specs.Scripts.{Plays}
 use Rattle.bench_wire.specs.Adding.{Extends}
 use Rattle.bench_wire.proofs.Extending.{extends-then}
 use Rattle.ecbench.specs.Serving.{Serves, ServesLine, PrintsLine}
 use Rattle.ecbench.proofs.Doing.{done-more}
-use Rattle.std.specs.Prelude.{IfSome, count_by}
+use Rattle.std.specs.Prelude.{IfSome, count_by, sum_by}
 use Rattle.std.proofs.lemmas.List.Sums.{sum_by-append}
 use Rattle.ec_model.specs.Upset.{is_cut_entry}
 use Rattle.ec_wire.specs.Calls.{RunsAlong}
 use Rattle.ec_wire.proofs.Appends.{count_by-append}
 use Rattle.ec_model.specs.Bench.{BenchCall}
-use Rattle.ecbench.specs.Cutting.{CutsBy, CutsAlong, arms_cut}
+use Rattle.ecbench.specs.Cutting.{CutsBy, CutsAlong, cuts_in}
 use Rattle.ecbench.specs.Playing.{IsCalled, AreCalled, PlaysOn, PlaysLines}
 use Rattle.ecbench.proofs.PlayLines.{on-then, on-none, called-more}
 use Rattle.ecbench.proofs.CutCounts.{told-then, told-as, still-told}
-use Rattle.ecbench.proofs.Adding.{arms-none, extends-none, marks-extends, line-adds}
+use Rattle.ecbench.proofs.Adding.{arms-none, line-adds}
+use Rattle.ecbench.proofs.OneCall.{extends-none, marks-extends}
+use Rattle.ecbench.proofs.DrillRounds.{in-part-adds}
 use Rattle.ecbench.proofs.ServedLemmas.{AtLine, Served, along, plays-lines, appends-then, before-line, line-number, script-fits, taken-more}
 
 -- where the entries of the last line begin that did something, once one more was read
@@ -69,7 +71,7 @@ record LineDid (around : Around) (number : ℕ) (last : List Entry) (line : List
   pub done : IsDone around number last line said old new behind
   pub since_is : (since : ℕ) → drop since old.entries ≡ last → drop (since_behind since old new) new.entries ≡ behind
   pub printed : Appends said before after
-  pub cuts : IfSome old.table (λ table. CutsBy (count_by arms_cut (line ∷ [])) (count_by is_cut_entry own) old.cut old.own_cuts new.cut new.own_cuts)
+  pub cuts : IfSome old.table (λ table. CutsBy (sum_by cuts_in (line ∷ [])) (count_by is_cut_entry own) old.cut old.own_cuts new.cut new.own_cuts)
   pub calls : List BenchCall
   pub called : IsCalled number line calls
   pub played : PlaysOn calls own old new
@@ -84,7 +86,7 @@ line-did number last line old new before after (inl (passes, unprinted)) =
       done = WasPassed passes refl;
       since_is = λ since is. since-same since old new last passes.same is;
       printed = unprinted;
-      cuts = told-as 0 (count_by arms_cut (line ∷ [])) 0 0 old new old.table (sym (arms-none line Nothing passes.wants refl)) refl
+      cuts = told-as 0 (sum_by cuts_in (line ∷ [])) 0 0 old new old.table (sym (arms-none line Nothing passes.wants refl)) refl
           (still-told old new old.table (ap (λ (view : WireView). view.cut) passes.same) (ap (λ (view : WireView). view.own_cuts) passes.same));
       calls = [];
       called = inl (passes.wants, refl);
@@ -109,13 +111,13 @@ told-by {around = around} {now = now} served result at line new middle printed s
 
 -- how often power was lost in lines and in one more
 cuts-more : (lines : List (List ℕ)) (line : List ℕ) (first second : List Entry) (old middle new : WireView) → RunsAlong first old.table middle.table →
-    IfSome old.table (λ table. CutsBy (count_by arms_cut lines) (count_by is_cut_entry first) old.cut old.own_cuts middle.cut middle.own_cuts) →
-    IfSome middle.table (λ table. CutsBy (count_by arms_cut (line ∷ [])) (count_by is_cut_entry second) middle.cut middle.own_cuts new.cut new.own_cuts) →
-    IfSome old.table (λ table. CutsBy (count_by arms_cut (lines ++ line ∷ [])) (count_by is_cut_entry (first ++ second)) old.cut old.own_cuts new.cut new.own_cuts)
+    IfSome old.table (λ table. CutsBy (sum_by cuts_in lines) (count_by is_cut_entry first) old.cut old.own_cuts middle.cut middle.own_cuts) →
+    IfSome middle.table (λ table. CutsBy (sum_by cuts_in (line ∷ [])) (count_by is_cut_entry second) middle.cut middle.own_cuts new.cut new.own_cuts) →
+    IfSome old.table (λ table. CutsBy (sum_by cuts_in (lines ++ line ∷ [])) (count_by is_cut_entry (first ++ second)) old.cut old.own_cuts new.cut new.own_cuts)
 cuts-more lines line first second old middle new runs once again =
-    told-as (count_by arms_cut lines + count_by arms_cut (line ∷ [])) (count_by arms_cut (lines ++ line ∷ [])) (count_by is_cut_entry first + count_by is_cut_entry second) (count_by is_cut_entry (first ++ second)) old new old.table
-    (sym (sum_by-append (λ (text : List ℕ). cond (arms_cut text) 1 0) lines (line ∷ []))) (sym (count_by-append is_cut_entry first second))
-    (told-then (count_by arms_cut lines) (count_by arms_cut (line ∷ [])) (count_by is_cut_entry first) (count_by is_cut_entry second) old.cut middle.cut new.cut old.own_cuts middle.own_cuts new.own_cuts first old.table middle.table runs once again)
+    told-as (sum_by cuts_in lines + sum_by cuts_in (line ∷ [])) (sum_by cuts_in (lines ++ line ∷ [])) (count_by is_cut_entry first + count_by is_cut_entry second) (count_by is_cut_entry (first ++ second)) old new old.table
+    (sym (sum_by-append cuts_in lines (line ∷ []))) (sym (count_by-append is_cut_entry first second))
+    (told-then (sum_by cuts_in lines) (sum_by cuts_in (line ∷ [])) (count_by is_cut_entry first) (count_by is_cut_entry second) old.cut middle.cut new.cut old.own_cuts middle.own_cuts new.own_cuts first old.table middle.table runs once again)
 
 -- a line behind others
 record DidMore (around : Around) (number since : ℕ) (raws : List (List ℕ)) (line : List ℕ) (opened now new : WireView) (before later : Option (List ℕ)) : Type 0 where
@@ -127,7 +129,7 @@ record DidMore (around : Around) (number since : ℕ) (raws : List (List ℕ)) (
   pub within : since_behind since now new ≤ length new.entries
   pub done : AreDone around 1 opened.entries (map without_return raws ++ line ∷ []) text opened new last
   pub printed : Appends text before later
-  pub cuts : IfSome opened.table (λ table. CutsBy (count_by arms_cut (map without_return raws ++ line ∷ [])) (count_by is_cut_entry own) opened.cut opened.own_cuts new.cut new.own_cuts)
+  pub cuts : IfSome opened.table (λ table. CutsBy (sum_by cuts_in (map without_return raws ++ line ∷ [])) (count_by is_cut_entry own) opened.cut opened.own_cuts new.cut new.own_cuts)
   pub calls : List BenchCall
   pub called : AreCalled 1 (map without_return raws ++ line ∷ []) calls
   pub played : PlaysOn calls own opened new
@@ -185,7 +187,7 @@ served-more {around = around} number opened now new reader after_reader left res
       last = did.last;
       since_is = did.since_is;
       within = did.within;
-      cuts = subst (λ (ls : List (List ℕ)). IfSome opened.table (λ table. CutsBy (count_by arms_cut ls) (count_by is_cut_entry did.own) opened.cut opened.own_cuts new.cut new.own_cuts)) (sym lines_are) did.cuts;
+      cuts = subst (λ (ls : List (List ℕ)). IfSome opened.table (λ table. CutsBy (sum_by cuts_in ls) (count_by is_cut_entry did.own) opened.cut opened.own_cuts new.cut new.own_cuts)) (sym lines_are) did.cuts;
       calls = did.calls;
       called = subst (λ (ls : List (List ℕ)). AreCalled 1 ls did.calls) (sym lines_are) did.called;
       played = did.played;
@@ -219,16 +221,19 @@ serves-last {around = around} number opened now new reader after_reader left res
           own = did.last;
           done = subst (λ (ls : List (List ℕ)). AreDone around 1 opened.entries ls did.text opened new did.last) (sym lines_are) did.done;
           printed = did.printed;
-          cuts = subst (λ (ls : List (List ℕ)). CutsAlong (count_by arms_cut ls) opened new) (sym lines_are) (record { added = did.own; entries = did.extends.entries; counted = did.cuts });
+          cuts = subst (λ (ls : List (List ℕ)). CutsAlong (sum_by cuts_in ls) opened new) (sym lines_are) (record { added = did.own; entries = did.extends.entries; counted = did.cuts });
           played = subst (λ (ls : List (List ℕ)). PlaysLines ls opened new) (sym lines_are) (record { calls = did.calls; called = did.called; added = did.own; entries = did.extends.entries; played = did.played });
         },
       );
     }
 
--- at most a mark of a line
-marked-extends : (number : ℕ) (old new : WireView) → (new ≡ old) ⊎ MarksLine number old new → (last : List Entry) × Extends last old new
-marked-extends number old new (inl same) = ([], subst (λ (view : WireView). Extends [] old view) (sym same) (extends-none old))
-marked-extends number old new (inr marks) = (Mark number ∷ [], marks-extends number old new marks)
+-- what there is of a line for which memory was refused
+left-extends : (around : Around) (number : ℕ) (line : List ℕ) (old new : WireView) → IsLeft around number line old new → (last : List Entry) × Extends last old new
+left-extends around number line old new (Unmarked same) = ([], subst (λ (view : WireView). Extends [] old view) (sym same) (extends-none old))
+left-extends around number line old new (JustMarked marks) = (Mark number ∷ [], marks-extends number old new marks)
+left-extends around number line old new (DrilledInPart x rounds wants drills) =
+    let part = in-part-adds around.size x rounds drills.marked new drills.part in
+    (Mark number ∷ part.0, extends-then (Mark number ∷ []) part.0 old drills.marked new (marks-extends number old drills.marked drills.marks) part.1)
 
 -- texts of which nothing follows
 appends-last : (text : List ℕ) (old middle new : Option (List ℕ)) → Appends text old middle → Appends [] middle new → Appends text old new
@@ -290,8 +295,8 @@ serves-stopped {around = around} SinkFault number opened now new reader line lef
         },
       );
     }
-serves-stopped NoMemory number opened now new reader line left rest more before after printed served at_line (marked, unprinted) =
-    let mark = marked-extends number now new marked in
+serves-stopped {around = around} NoMemory number opened now new reader line left rest more before after printed served at_line (left_of, unprinted) =
+    let mark = left-extends around number line now new left_of in
     record {
       own = served.own ++ mark.0;
       extends = extends-then served.own mark.0 opened now new served.extends mark.1;
@@ -305,7 +310,7 @@ serves-stopped NoMemory number opened now new reader line left rest more before 
         record {
           middle = now;
           plays = record { text = served.text; own = served.last; done = served.done; printed = appends-last served.text before after printed served.printed unprinted; cuts = along served; played = plays-lines served };
-          marked = subst (λ (n : ℕ). (new ≡ now) ⊎ MarksLine n now new) (line-number number served.raws served.number_is) marked;
+          left = subst (λ (n : ℕ). IsLeft around n line now new) (line-number number served.raws served.number_is) left_of;
         },
       );
     }

@@ -1,20 +1,21 @@
 -- How often power was lost, and by what.
-use Rattle.std.specs.Prelude.{◌≡◌, ℕ, ◌+◌, ◌≤◌, min, Bool, true, false, List, ◌++◌, count_by, Option, Some, None, IfSome, Result, Ok}
+use Rattle.std.specs.Prelude.{◌≡◌, ℕ, ◌+◌, ◌≤◌, min, List, ◌++◌, count_by, Option, Some, None, IfSome, Result, Ok}
 use Rattle.ec_types.specs.declared.why.Why.{Why}
 use Rattle.flash_dev.specs.Counts.{last_count}
 use Rattle.flash_dev.specs.Cuts.{ArmedCut}
 use Rattle.ec_model.specs.declared.event.Entry.{Entry}
 use Rattle.ec_model.specs.Upset.{is_cut_entry}
 use Rattle.ec_wire.specs.Calls.{WireView}
-use Rattle.ecbench.specs.Lines.{Deed, Cuts, deed_of}
+use Rattle.ecbench.specs.Lines.{Deed, Cuts, Drills, deed_of}
 
--- whether a line arms a cut
-abbrev pub is_cut_deed : Result Deed Why → Bool
-is_cut_deed (Ok (Cuts operation torn)) = true
-is_cut_deed other = false
+-- how many cuts a line arms: one, or one in each round of a drill
+abbrev pub cuts_of : Result Deed Why → ℕ
+cuts_of (Ok (Cuts operation torn)) = 1
+cuts_of (Ok (Drills x rounds)) = rounds
+cuts_of other = 0
 
-abbrev pub arms_cut : List ℕ → Bool
-arms_cut text = is_cut_deed (deed_of text)
+abbrev pub cuts_in : List ℕ → ℕ
+cuts_in text = cuts_of (deed_of text)
 
 -- how many cuts are armed: one at most
 abbrev pub armed_cuts : Option ArmedCut → ℕ

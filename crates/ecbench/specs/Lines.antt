@@ -31,6 +31,7 @@ use Rattle.ectool_lines.specs.Following.{stands, Follows}
 use Rattle.ectool_lines.specs.Running.{Carries}
 use Rattle.bench_shelf.specs.Shelves.{File}
 use Rattle.sync_lines.specs.Syncing.{SyncsName}
+use Rattle.drill_lines.specs.Drilling.{Drills as IsDrill, DrillsInPart}
 use Rattle.ecbench.specs.Tracing.{trace_text}
 
 -- what is around the lines of a script: the size of the controller's flash, and the shelf's files, where they are told
@@ -40,7 +41,7 @@ pub record Around : Type 0 where
 
 -- what a line wants: nothing, that commands are sent, that an event of the world happens, that the host makes calls of its
 -- own, that an event of the world is armed for a call to come, that a cut is armed for a flash operation to come, that an image
--- of the shelf is synced, or that entries are counted
+-- of the shelf is synced, that a drill is carried out, or that entries are counted
 pub data Deed : Type 0 where
   Nothing : Deed
   Asks : Tool → Deed
@@ -49,6 +50,7 @@ pub data Deed : Type 0 where
   Arms : (call : ℕ) → WorldEvent → Deed
   Cuts : (operation : ℕ) → (torn : List ℕ) → Deed
   Syncs : (name : List ℕ) → Deed
+  Drills : (x rounds : ℕ) → Deed
   Traces : Deed
 
 -- what a line wants that was read so far
@@ -62,6 +64,7 @@ deed_by text (line.Bus calls) = Ok (Makes calls)
 deed_by text (line.At call event) = Ok (Arms call event)
 deed_by text (line.Cut operation torn) = Ok (Cuts operation torn)
 deed_by text (line.Sync name) = Ok (Syncs name)
+deed_by text (line.Drill x rounds) = Ok (Drills x rounds)
 deed_by text line.Trace = Ok Traces
 
 -- what a line wants, or its first fault
@@ -127,6 +130,24 @@ pub record SyncsLine (around : Around) (number : ℕ) (name words : List ℕ) (o
   pub marks : MarksLine number old marked
   pub synced : SyncsName around.files around.size name words marked new
 
+-- a line was marked, and a drill was carried out; these are its words
+pub record DrillsLine (size number x rounds : ℕ) (words : List ℕ) (old new : WireView) : Type 0 where
+  pub marked : WireView
+  pub marks : MarksLine number old marked
+  pub drill : IsDrill size x rounds words marked new
+
+-- a line was marked, and a part of a drill was carried out
+pub record DrillsLineInPart (size number x rounds : ℕ) (old new : WireView) : Type 0 where
+  pub marked : WireView
+  pub marks : MarksLine number old marked
+  pub part : DrillsInPart size x rounds marked new
+
+-- what there is of a line for which memory was refused
+pub data IsLeft (around : Around) (number : ℕ) (text : List ℕ) (old new : WireView) : Type 0 where
+  Unmarked : new ≡ old → IsLeft around number text old new
+  JustMarked : MarksLine number old new → IsLeft around number text old new
+  DrilledInPart : (x rounds : ℕ) → deed_of text ≡ Ok (Drills x rounds) → DrillsLineInPart around.size number x rounds old new → IsLeft around number text old new
+
 -- a line that wants something was done, and this is its text; `last` are the entries of the last line before that did something
 pub data DoesLine (around : Around) (number : ℕ) (last : List Entry) (text said : List ℕ) (old new : WireView) : Type 0 where
   Carried : CarriesLine number text said old new → DoesLine around number last text said old new
@@ -135,6 +156,7 @@ pub data DoesLine (around : Around) (number : ℕ) (last : List Entry) (text sai
   HasArmed : (call : ℕ) (event : WorldEvent) (result : Result (Unit {0}) ArmsFull) → deed_of text ≡ Ok (Arms call event) → ArmsLine number call event result old new → said ≡ printed (armed_text result) → DoesLine around number last text said old new
   HasCut : (operation : ℕ) (torn : List ℕ) → deed_of text ≡ Ok (Cuts operation torn) → CutsLine number operation torn old new → said ≡ printed (codes "ok") → DoesLine around number last text said old new
   Synced : (name words : List ℕ) → deed_of text ≡ Ok (Syncs name) → SyncsLine around number name words old new → said ≡ printed words → DoesLine around number last text said old new
+  Drilled : (x rounds : ℕ) (words : List ℕ) → deed_of text ≡ Ok (Drills x rounds) → DrillsLine around.size number x rounds words old new → said ≡ printed words → DoesLine around number last text said old new
   Traced : deed_of text ≡ Ok Traces → MarksLine number old new → said ≡ printed (trace_text last) → DoesLine around number last text said old new
 
 -- a line that wants nothing was passed over

@@ -1,5 +1,5 @@
 -- A script that was carried out, as far as it was.
-use Rattle.std.specs.Prelude.{◌≡◌, ◌⊎◌, ℕ, ◌+◌, ◌≤◌, List, [], ◌∷◌, ◌++◌, length, count_by, Option, IfSome, Ok}
+use Rattle.std.specs.Prelude.{◌≡◌, ℕ, ◌+◌, ◌≤◌, List, [], ◌∷◌, ◌++◌, length, sum_by, Option, IfSome, Ok}
 use Rattle.ec_model.specs.declared.event.Entry.{Entry}
 use Rattle.ec_wire.specs.Calls.{WireView}
 use Rattle.line_reader.specs.Lines.{most_bytes, lines_of, ended_lines, script_lines}
@@ -7,8 +7,8 @@ use Rattle.line_reader.specs.Taking.{Takes}
 use Rattle.ectool_lines.specs.Running.{Appends, AppendsFront}
 use Rattle.ecbench.specs.declared.run.Exit.{Exit}
 use Rattle.ecbench.specs.declared.run.Exit.TheVariants.{Done, BadLine, SourceFault, SinkFault, ShelfFault, NoMemory, ScriptTooLong}
-use Rattle.ecbench.specs.Lines.{Around, Syncs, deed_of, AreDone, DoesLine, MarksLine, IsFaulty}
-use Rattle.ecbench.specs.Cutting.{CutsAlong, arms_cut}
+use Rattle.ecbench.specs.Lines.{Around, Syncs, deed_of, AreDone, DoesLine, MarksLine, IsLeft, IsFaulty}
+use Rattle.ecbench.specs.Cutting.{CutsAlong, cuts_in}
 use Rattle.ecbench.specs.Playing.{PlaysLines}
 
 -- the script is all that a source had, where it tells that, and begins with what was taken from it
@@ -36,7 +36,7 @@ pub record Plays (around : Around) (last : List Entry) (lines : List (List ℕ))
   pub own : List Entry
   pub done : AreDone around 1 last lines text old new own
   pub printed : Appends text before after
-  pub cuts : CutsAlong (count_by arms_cut lines) old new
+  pub cuts : CutsAlong (sum_by cuts_in lines) old new
   pub played : PlaysLines lines old new
 
 -- in the front of what was taken just these lines end, and at most 4,097 bytes are behind it: the one that ends the next line,
@@ -68,7 +68,7 @@ pub record StopsInText (around : Around) (last : List Entry) (lines : List (List
   pub plays : Plays around last lines old middle before between
   pub does : DoesLine around (length lines + 1) plays.own line text middle new
   pub printed : AppendsFront text between after
-  pub cuts : CutsAlong (count_by arms_cut (lines ++ line ∷ [])) old new
+  pub cuts : CutsAlong (sum_by cuts_in (lines ++ line ∷ [])) old new
   pub played : PlaysLines (lines ++ line ∷ []) old new
 
 -- the shelf failed for this line, which wants an image of it: the lines before it were done, and it was marked
@@ -79,11 +79,11 @@ pub record StopsAtShelf (around : Around) (last : List Entry) (lines : List (Lis
   pub plays : Plays around last lines old middle before after
   pub marks : MarksLine (length lines + 1) middle new
 
--- memory was refused for this line: the lines before it were done, and of it there is at most its mark
-pub record StopsBefore (around : Around) (last : List Entry) (lines : List (List ℕ)) (old new : WireView) (before after : Option (List ℕ)) : Type 0 where
+-- memory was refused for this line: the lines before it were done, and of it there is at most its mark, or a part of its drill
+pub record StopsBefore (around : Around) (last : List Entry) (lines : List (List ℕ)) (line : List ℕ) (old new : WireView) (before after : Option (List ℕ)) : Type 0 where
   pub middle : WireView
   pub plays : Plays around last lines old middle before after
-  pub marked : (new ≡ middle) ⊎ MarksLine (length lines + 1) middle new
+  pub left : IsLeft around (length lines + 1) line middle new
 
 -- what was done on a bench with the script of a source, by how that ended; `last` are the entries before it
 abbrev pub PlaysUpTo : Around → (last : List Entry) → Exit → (old new : WireView) → (left rest before after : Option (List ℕ)) → Type 0
@@ -102,7 +102,7 @@ PlaysUpTo around last ShelfFault old new left rest before after =
     × StopsAtShelf around last lines line old new before after
 PlaysUpTo around last NoMemory old new left rest before after =
     (script taken line : List ℕ) × (lines : List (List ℕ)) × IsScript script taken left rest × IsLine script taken lines line
-    × StopsBefore around last lines old new before after
+    × StopsBefore around last lines line old new before after
 PlaysUpTo around last ScriptTooLong old new left rest before after =
     (script : List ℕ) × IsLong script left rest × Plays around last (script_lines script) old new before after
 PlaysUpTo around last other old new left rest before after = ⊥

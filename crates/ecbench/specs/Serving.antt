@@ -18,7 +18,7 @@ use Rattle.line_reader.specs.declared.reader.Next.{Next}
 use Rattle.line_reader.specs.declared.reader.Next.TheVariants.{Line, Last, End, TooLong, Full}
 use Rattle.ecbench.specs.declared.run.Exit.{Exit}
 use Rattle.ecbench.specs.declared.run.Exit.TheVariants.{Done, BadLine, SinkFault, ShelfFault, NoMemory, ScriptTooLong}
-use Rattle.ecbench.specs.Lines.{Around, Syncs, deed_of, IsFaulty, MarksLine, HappensLine, MakesLine, ArmsLine, CutsLine, SyncsLine, DoesLine, PassesOver, armed_text}
+use Rattle.ecbench.specs.Lines.{Around, Syncs, deed_of, IsFaulty, MarksLine, HappensLine, MakesLine, ArmsLine, CutsLine, SyncsLine, DrillsLine, DrillsLineInPart, IsLeft, DoesLine, PassesOver, armed_text}
 use Rattle.ecbench.specs.Tracing.{trace_text}
 use Rattle.ecbench.specs.Scripts.{PlaysUpTo}
 use Rattle.ecbench.specs.Endings.{PowersOn}
@@ -39,7 +39,7 @@ pub record PrintsLine (around : Around) (number : ℕ) (last : List Entry) (line
   pub printed : Appends text before after
 
 -- what was done with a line: carried out and printed, or passed over; refused; carried out and printed in part; marked, since
--- the shelf failed; or marked at most, since memory was refused
+-- the shelf failed; or marked at most, or a part of its drill carried out, since memory was refused
 abbrev pub ServesLine : Around → Result (Unit {0}) Exit → ℕ → List Entry → List ℕ → WireView → WireView → (before after : Option (List ℕ)) → Type 0
 ServesLine around (Ok done) number last line old new before after =
     (PassesOver line [] old new × Appends [] before after) ⊎ PrintsLine around number last line old new before after
@@ -50,7 +50,7 @@ ServesLine around (Err SinkFault) number last line old new before after =
 ServesLine around (Err ShelfFault) number last line old new before after =
     (name : List ℕ) × (deed_of line ≡ Ok (Syncs name)) × MarksLine number old new × Appends [] before after
 ServesLine around (Err NoMemory) number last line old new before after =
-    ((new ≡ old) ⊎ MarksLine number old new) × Appends [] before after
+    IsLeft around number line old new × Appends [] before after
 ServesLine around (Err other) number last line old new before after = ⊥
 
 -- the exit that ends a script before a line of it, if there is one
@@ -116,6 +116,17 @@ ServesSync (Err ShelfFault) around number name old new before after = MarksLine 
 ServesSync (Err NoMemory) around number name old new before after =
     ((new ≡ old) ⊎ MarksLine number old new) × Appends [] before after
 ServesSync (Err other) around number name old new before after = ⊥
+
+-- what was done with a drill: it was carried out, and its text was printed, whole or in part; or memory was refused, behind a part
+-- of it
+abbrev pub ServesDrill : Result (Unit {0}) Exit → (size number x rounds : ℕ) → WireView → WireView → (before after : Option (List ℕ)) → Type 0
+ServesDrill (Ok done) size number x rounds old new before after =
+    (words : List ℕ) × DrillsLine size number x rounds words old new × Appends (printed words) before after
+ServesDrill (Err SinkFault) size number x rounds old new before after =
+    (words : List ℕ) × DrillsLine size number x rounds words old new × AppendsFront (printed words) before after
+ServesDrill (Err NoMemory) size number x rounds old new before after =
+    ((new ≡ old) ⊎ DrillsLineInPart size number x rounds old new) × Appends [] before after
+ServesDrill (Err other) size number x rounds old new before after = ⊥
 
 -- the exit that ends a script where a line was not synced and printed whole
 abbrev pub exit_of_sync : SyncLineErr → Exit

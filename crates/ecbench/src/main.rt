@@ -12,6 +12,7 @@ mod arming;
 #[cfg(test)]
 mod bus_tests;
 mod calling;
+mod drilling;
 #[cfg(test)]
 mod image_tests;
 mod marking;

@@ -14,6 +14,7 @@ ghost use Rattle.ecbench.specs.Serving.{fresh_reader, Drives, Serves, ServesLine
 
 use crate::arming::{MOST_TORN, serve_at, serve_cut};
 use crate::calling::serve_calls;
+use crate::drilling::serve_drill;
 use crate::marking::begin;
 use crate::run::Exit;
 use crate::setup::Setup;
@@ -22,6 +23,8 @@ use crate::tracing::serve_trace;
 use bench_io::{Sink, Source, print};
 use bench_shelf::Shelf;
 use bench_wire::Bench;
+use drill_draws::DrillImage;
+use drill_lines::Drill;
 use ec_model::WorldEvent;
 use ec_types::Why;
 use ec_wire::{Bus, Wire};
@@ -89,6 +92,7 @@ fn serve<B: Bus + Drop, F: Tear, S: Source, K: Sink, H: Shelf>(
     let mut room = Room {
         buffers: Buffers::new(),
         torn: [0; MOST_TORN],
+        image: DrillImage::new(),
     };
     let mut since = 0;
     for number in 1..=MOST_LINES {
@@ -146,6 +150,7 @@ fn exit_at(next: Next, number: u32) -> Option<Exit>
 struct Room {
     buffers: Buffers,
     torn: [u8; MOST_TORN],
+    image: DrillImage,
 }
 
 // Where a line stands: its number, counted from 1, and where in the journal the last line before begins that did something.
@@ -190,6 +195,11 @@ fn serve_line<B: Bus + Drop, F: Tear, K: Sink, H: Shelf>(
         Ok(Line::Sync { name }) => {
             let text = &mut room.buffers.text;
             serve_sync(bench, setup, number, name.as_bytes(), text, sink, shelf)
+        }
+        Ok(Line::Drill { x, rounds }) => {
+            let Room { buffers, image, .. } = room;
+            let drill = Drill { x, rounds };
+            serve_drill(bench, setup, number, drill, image, &mut buffers.text, sink)
         }
         Ok(Line::Trace) => serve_trace(bench, number, place.since, &mut room.buffers.text, sink),
         Err(fault) => Err(bad_line(number, fault)),

@@ -11,9 +11,9 @@ use Rattle.ec_model.specs.declared.event.WorldReset.{WorldReset}
 use Rattle.ec_model.specs.declared.event.WorldReset.TheVariants.{Pin as PinReset, Watchdog}
 use Rattle.script_words.specs.Words.{words_of}
 use Rattle.script_words.specs.Lines.{checked, does_nothing}
-use Rattle.script_words.specs.Forms.{◌>>=◌, no_words, one_word, two_words, three_words, alone, with_one, number_to, count_to, hex_to}
+use Rattle.script_words.specs.Forms.{◌>>=◌, no_words, one_word, two_words, three_words, alone, with_one, with_two, number_to, count_to, hex_to}
 use Rattle.script_lines.specs.declared.line.Line.{Line}
-use Rattle.script_lines.specs.declared.line.Line.TheVariants.{Nothing, Tool, Pin, Power, Reset, Cut, At, Sync, Trace, Bus}
+use Rattle.script_lines.specs.declared.line.Line.TheVariants.{Nothing, Tool, Pin, Power, Reset, Cut, At, Sync, Drill, Trace, Bus}
 use Rattle.script_lines.specs.declared.line.BusLine.{BusLine}
 use Rattle.script_lines.specs.declared.line.BusLine.TheVariants.{Tick, PortsOut, PortsIn, I2cWrite, I2cRead, SpiSelect, SpiDeselect, SpiBytes}
 
@@ -118,6 +118,7 @@ line_by (first ∷ words) =
     if bytes_eq first (codes "i2cr") then (with_one (count_to 4096) I2cRead words >>= λ calls. Ok (Bus calls)) else
     if bytes_eq first (codes "spi") then (spi_by words >>= λ calls. Ok (Bus calls)) else
     if bytes_eq first (codes "sync") then with_one name_to Sync words else
+    if bytes_eq first (codes "drill") then with_two (number_to 0xFFFFFFFF) (count_to 64) Drill words else
     if bytes_eq first (codes "trace") then alone Trace words else
     Ok Tool
 
@@ -140,4 +141,5 @@ abbrev pub IsLineInRange : Line → Type 0
 IsLineInRange (Bus calls) = IsInRange calls
 IsLineInRange (Cut operation torn) = length torn ≤ 4096
 IsLineInRange (At call event) = 1 ≤ call
+IsLineInRange (Drill x rounds) = (1 ≤ rounds) × (rounds ≤ 64)
 IsLineInRange other = Unit {0}

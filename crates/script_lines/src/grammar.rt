@@ -2,7 +2,7 @@
 ghost use Rattle.std.specs.Prelude.{◌≡◌, ◌≤◌, ◌∷◌, length, IfOk};
 ghost use Rattle.script_words.specs.Words.{words_of};
 ghost use Rattle.script_words.specs.Faults.{by_kind};
-ghost use Rattle.script_words.specs.Forms.{with_one, count_to, hex_to};
+ghost use Rattle.script_words.specs.Forms.{with_one, with_two, number_to, count_to, hex_to};
 ghost use Rattle.script_lines.specs.Lines.{
   switch_by,
   switch_to,
@@ -40,6 +40,9 @@ const MOST_READS: u32 = 4096;
 
 // The most bytes that a cut leaves torn.
 const MOST_TORN: usize = 4096;
+
+// The most rounds of a drill.
+const MOST_ROUNDS: u32 = 64;
 
 /// What a line without its line feed says, or the first thing that is wrong with it: its length, its bytes, then, where its
 /// first word is one of these lines', how many words there are behind it, and at last the first word from the left that is
@@ -87,6 +90,8 @@ fn by_words<'a>(first: &[u8], rest: &'a [u8]) -> Result<Line<'a>, Fault>
         Ok(Line::Bus(spi(rest)?))
     } else if is_word(first, b"sync") {
         sync(rest)
+    } else if is_word(first, b"drill") {
+        drill(rest)
     } else if is_word(first, b"trace") {
         no_words(rest)?;
         Ok(Line::Trace)
@@ -235,6 +240,17 @@ fn sync(words: &[u8]) -> Result<Line<'_>, Fault>
     let name = one_word(words)?;
     Ok(Line::Sync {
         name: Name::of_word(2, name)?,
+    })
+}
+
+fn drill(words: &[u8]) -> Result<Line<'_>, Fault>
+    ensures line { by_kind result ≡ with_two (number_to 0xFFFFFFFF) (count_to 64) Line.Drill (words_of words.now) }
+    ensures within { IfOk result IsLineInRange }
+{
+    let (x, rounds) = two_words(words)?;
+    Ok(Line::Drill {
+        x: number_to(2, x, u32::MAX)?,
+        rounds: count_to(3, rounds, MOST_ROUNDS)?,
     })
 }
 

@@ -42,6 +42,13 @@ pub enum Line<'a> {
         /// The image's name.
         name: Name<'a>,
     },
+    /// `drill X N`: rounds of an image that is synced while power is cut, and then synced again.
+    Drill {
+        /// What the images and the cuts are drawn from.
+        x: u32,
+        /// How many rounds, 1 to 64.
+        rounds: u32,
+    },
     /// `trace`: the entries of the line before that did something are counted.
     Trace,
     /// It calls the bus itself.

@@ -14,7 +14,7 @@ pub enum Wanted {
     Printable,
     #[error("one of hello, version, chipinfo, cmdversions, protoinfo, flashinfo, regioninfo, flashread, flashwrite, \
              flasherase, flashprotect, echash, sysinfo, reboot_ec, test, resend, pin, power, reset, tick, cut, at, \
-             out, in, i2cw, i2cr, spi, sync and trace")]
+             out, in, i2cw, i2cr, spi, sync, trace and drill")]
     FirstWord,
     /// So many words behind the first one.
     #[error("{count}")]

@@ -1,10 +1,10 @@
-use Rattle.std.proofs.Common.{◌≡◌, refl, sym, ◌∙◌, subst, ap, ℕ, List, drop, length, Ok, Err, None, arith}
+use Rattle.std.proofs.Common.{◌≡◌, refl, sym, ◌∙◌, subst, ap, drop, length, Ok, Err, None, arith}
 use Rattle.ec_wire.specs.Journals.{JournalView}
 use Rattle.bench_wire.specs.BenchView.{wire_view}
 use Rattle.line_reader.specs.declared.reader.Next.{Next}
 use Rattle.line_reader.specs.declared.reader.Next.TheVariants.{Line, Last}
 use Rattle.line_reader.specs.Finding.{Finds}
-use Rattle.ecbench.specs.Serving.{ServesLine, exit_at}
+use Rattle.ecbench.specs.Serving.{exit_at}
 use Rattle.ecbench.proofs.ServedLemmas.{served-nothing, serves-failed, serves-exit, at-any, ended-line}
 use Rattle.ecbench.proofs.ServedLines.{serves-as, told-by, served-since, since-is, served-more, serves-last, serves-stopped}
 use Rattle.line_reader.proofs.Takings.{Takes-nothing}

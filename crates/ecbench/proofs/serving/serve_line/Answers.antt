@@ -5,7 +5,7 @@ use Rattle.script_words.specs.Faults.{by_kind}
 use Rattle.script_lines.specs.declared.line.Line.{Line}
 use Rattle.script_lines.specs.declared.line.Line.TheVariants as line
 use Rattle.script_lines.specs.Lines.{line_of}
-use Rattle.ecbench.proofs.Adding.{event-serves, calls-serves, arm-serves, cut-serves, sync-named, trace-serves}
+use Rattle.ecbench.proofs.Adding.{event-serves, calls-serves, arm-serves, cut-serves, sync-named, drill-serves, trace-serves}
 use Rattle.ecbench.proofs.ReadLemmas.{deed-read}
 use Rattle.ecbench.proofs.serving.serve_line.Goals as goal
 
@@ -55,3 +55,9 @@ returns-in-Ok-Sync-clause-serves g c =
     let read = line.Sync c.in-Ok-Sync.name in
     let is : line_of c.args.line.now ≡ Ok read = sym c.parse.ensures.line ∙ ap (λ (outcome : Result Line Fault). by_kind outcome) c.in-Ok-Sync.is ∙ ap (λ (found : Line). Ok found) c.in-Ok-Sync.field-0-is in
     sync-named c.serve_sync.result _ c.args.place.number _ c.args.line.now _ c.in-Ok-Sync.name _ _ _ _ c.as_bytes.ensures (deed-read c.args.line.now read is) c.serve_sync.ensures.serves
+
+pub returns-in-Ok-Drill-clause-serves : goal.returns-in-Ok-Drill-clause-serves
+returns-in-Ok-Drill-clause-serves g c =
+    let read = line.Drill c.in-Ok-Drill.x c.in-Ok-Drill.rounds in
+    let is : line_of c.args.line.now ≡ Ok read = sym c.parse.ensures.line ∙ ap (λ (outcome : Result Line Fault). by_kind outcome) c.in-Ok-Drill.is ∙ ap (λ (found : Line). Ok found) c.in-Ok-Drill.field-0-is in
+    drill-serves c.serve_drill.result _ c.args.place.number _ c.args.line.now c.in-Ok-Drill.x c.in-Ok-Drill.rounds _ _ _ _ (deed-read c.args.line.now read is) c.serve_drill.ensures.serves
